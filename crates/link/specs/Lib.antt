@@ -1,0 +1,5 @@
+pub mod Kinds
+pub mod Pixels
+pub mod PixelLaws
+pub mod Refusals
+pub mod Rows

@@ -1,0 +1,11 @@
+pub mod Channelwise
+pub mod Rounding
+pub mod Nearness
+pub mod ExactLaws
+pub mod JoinLaws
+pub mod Sampling
+pub mod Largest
+pub mod CurveLaws
+pub mod Worked
+pub mod RowSums
+pub mod MatrixLaws
