@@ -20,6 +20,7 @@ use link::Rgb8Pixel;
 use link::Rgb16;
 use link::Rgb16Pixel;
 use link::row;
+use meaning::counts_rounded_up;
 use stage::Curves;
 use stage::CurvesStage;
 use stage::Joined;
@@ -40,9 +41,9 @@ fn print_pixel<P: Sampled>(rt: &LibcRuntime, pixel: &P) -> Result<(), AnyError> 
     Ok(())
 }
 
-// A bound in grains and in counts, the counts rounded up to five decimals.
+// A bound in grains, and in counts with five decimals.
 fn print_bound(rt: &LibcRuntime, grains: u32) -> Result<(), AnyError> {
-    let parts = (grains as u64 * 100_000 + 65_535) / 65_536;
+    let parts = counts_rounded_up(grains);
     let counts = parts / 100_000;
     let decimals = parts % 100_000;
     println!(

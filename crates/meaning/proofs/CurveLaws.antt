@@ -1,24 +1,24 @@
 -- Curves keep the laws. Assumes nothing.
-use mathlib.Core.Path.{_≡_, refl, sym, ap, subst, _∙_}
+use mathlib.Core.Path.{_≡_, sym, ap, _∙_}
 use mathlib.Core.List.{List}
 use mathlib.Core.Logic.{⊎-elim}
-use Prim.Native.Nat.{ℕ, zero, suc, _+_, _-_, _*_, _/_, _≤_, _<_, min}
-use native.Mathlib.Nat.{mul-assoc, mul-comm, mul-left-comm, add-zero, add-suc, add-mul, mul-pos, mul-le-mul-left, mul-le-mul-right, div-lt-iff-lt-mul}
+use Prim.Native.Nat.{ℕ, zero, suc, _+_, _-_, _*_, _/_, _≤_, _<_}
+use native.Mathlib.Nat.{mul-assoc, add-zero, add-suc, add-mul, mul-le-mul-left, mul-le-mul-right, div-lt-iff-lt-mul}
 use native.Mathlib.Numerals.{add-one}
 use native.Mathlib.Omega.{arith}
 use Rattle.std.proofs.shelf.Tests.{cases-lt}
 use Rattle.meaning.specs.declared.Channels.{Channels}
-use Rattle.meaning.specs.Colours.{channels, max-count, grains, number, num, Exact, Valid, scale, spread, ceiling}
+use Rattle.meaning.specs.Colours.{max-count, grains, number, num, Exact, Valid, scale, ceiling}
 use Rattle.meaning.specs.Distances.{gap, Same}
-use Rattle.meaning.specs.Sums.{sum-below, largest-below, samples}
+use Rattle.meaning.specs.Sums.{largest-below, samples}
 use Rattle.meaning.specs.Stages.{unclaimed}
-use Rattle.meaning.specs.Curves.{entry, table-entry, curves-exact, largest-step, curve-steepness, Curves-keep-the-laws}
+use Rattle.meaning.specs.Curves.{table-entry, curves-exact, largest-step, curve-steepness, Curves-keep-the-laws}
 use Rattle.meaning.proofs.Channelwise.{number-limit, length-spread, spread-within, spread-beyond, each-channel}
 use Rattle.meaning.proofs.Rounding.{ceiling-covers}
 use Rattle.meaning.proofs.Largest.{below-largest}
 use Rattle.meaning.proofs.Nearness.{Level, num-scale}
 use Rattle.meaning.proofs.Sampling.{sum-le, sum-add, sum-times, floor-gaps, samples-limit, samples-scale}
-use Rattle.meaning.proofs.ExactLaws.{ExactLaws, half-lawful}
+use Rattle.meaning.proofs.ExactLaws.{half-lawful}
 
 -- the arithmetic of a channel's steepness
 grown : (m j u v w g l d p q : ℕ) → u ≤ v + j * w → w ≡ m * g → g * q ≤ p * d → grains * m * j ≤ l * max-count → u * (grains * q) ≤ v * (grains * q) + l * p * (max-count * d)

@@ -1,18 +1,17 @@
 -- What an exact map has to show so that its rounded answers are a stage, and that this is enough. Assumes nothing.
-use mathlib.Core.Path.{_≡_, refl, sym, ap, subst, _∙_}
-use mathlib.Core.List.{List, map}
-use Prim.Native.Nat.{ℕ, zero, suc, _+_, _-_, _*_, _≤_, _<_}
-use native.Mathlib.Nat.{mul-comm, mul-pos}
+use mathlib.Core.Path.{_≡_, ap, _∙_}
+use mathlib.Core.List.{List}
+use Prim.Native.Nat.{ℕ, _+_, _*_, _≤_, _<_}
+use native.Mathlib.Nat.{mul-comm}
 use native.Mathlib.Omega.{arith}
-use lib.ListN.{length}
 use Rattle.std.proofs.shelf.Lists.{length-map}
 use Rattle.meaning.specs.declared.Channels.{Channels}
-use Rattle.meaning.specs.Colours.{channels, max-count, grains, full-range, half-count, number, at, num, Colour, Exact, Valid, whole, scale, rounded, nearest}
+use Rattle.meaning.specs.Colours.{max-count, grains, full-range, half-count, number, at, num, Colour, Exact, Valid, whole, scale, rounded, nearest}
 use Rattle.meaning.specs.Distances.{Near, Same}
-use Rattle.meaning.specs.Stages.{unclaimed, Meaning, Lawful, rounding}
+use Rattle.meaning.specs.Stages.{unclaimed, Lawful, rounding}
 use Rattle.meaning.proofs.Channelwise.{at-map}
 use Rattle.meaning.proofs.Rounding.{rounded-high, rounded-low, rounded-limit, rounded-zero}
-use Rattle.meaning.proofs.Nearness.{near-same, near-level, level-near, level-sym, Level, same-scale, same-sym, valid-scale, valid-whole, num-scale}
+use Rattle.meaning.proofs.Nearness.{near-same, near-level, level-near, level-sym, Level, same-scale, same-sym, valid-scale, valid-whole}
 
 -- the laws of an exact map f of steepness l; the last one speaks only of colours over one denominator
 pub record ExactLaws (outs : Channels) (f : Exact → Exact) (l : ℕ) : Type 0 where

@@ -1,21 +1,20 @@
 -- Joining keeps the laws, and equal colours have equal results. Assumes nothing.
-use mathlib.Core.Path.{_≡_, refl, sym, ap, subst, _∙_}
-use mathlib.Core.Bool.{Bool, true, false, cond, _||_}
+use mathlib.Core.Path.{_≡_, sym, ap, subst, _∙_}
+use mathlib.Core.Bool.{true, false, _||_}
 use mathlib.Core.List.{List}
 use mathlib.Core.Logic.{⊎-elim}
-use Prim.Native.Nat.{ℕ, zero, suc, _+_, _-_, _*_, _≤_, _<_, min}
-use native.Mathlib.Nat.{mul-assoc, mul-comm, mul-left-comm, mul-add, add-mul, mul-pos, mul-le-mul-right, eq-of-mul-eq-mul-right}
+use Prim.Native.Nat.{ℕ, _+_, _*_, _≤_, _<_, min}
+use native.Mathlib.Nat.{mul-comm, mul-le-mul-right, eq-of-mul-eq-mul-right}
 use native.Mathlib.Omega.{arith}
 use lib.Dec.{eqb}
 use lib.ListN.{length}
 use Rattle.std.proofs.shelf.Lists.{length-map, ext-getD}
-use Rattle.std.proofs.shelf.Tests.{eqb-true, eqb-false, cond-both, or-parts, cases-bool, cases-lt, cond-true, cond-false}
-use Rattle.std.proofs.shelf.Ways.{tells}
-use Rattle.meaning.specs.Colours.{grains, full-range, number, at, num, Colour, Exact, Valid, whole, scale, ceiling}
+use Rattle.std.proofs.shelf.Tests.{eqb-false, cond-both, or-parts, cases-bool, cases-lt, cond-true, cond-false}
+use Rattle.meaning.specs.Colours.{grains, full-range, num, Colour, Exact, Valid, whole, scale, ceiling}
 use Rattle.meaning.specs.Distances.{Near, Same}
-use Rattle.meaning.specs.Stages.{unclaimed, Meaning, Lawful, joined, joined-steepness, joined-error, Joining-keeps-the-laws, Equal-in-equal-out}
+use Rattle.meaning.specs.Stages.{unclaimed, Meaning, Lawful, joined-steepness, joined-error, Joining-keeps-the-laws, Equal-in-equal-out}
 use Rattle.meaning.proofs.Rounding.{ceiling-covers}
-use Rattle.meaning.proofs.Nearness.{near-sym, near-more, near-add, near-range, valid-whole, valid-scale, num-scale, same-scale, same-sym}
+use Rattle.meaning.proofs.Nearness.{near-more, near-add, near-range, valid-whole, valid-scale, num-scale, same-sym}
 
 -- scaled by each other's denominators, equal colours are one and the same
 one-colour : (x y : Exact) → Valid x → Valid y → Same x y → scale (y .den) x ≡ scale (x .den) y

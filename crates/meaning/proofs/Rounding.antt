@@ -1,7 +1,7 @@
 -- What rounding to the nearest whole number, halves upward, keeps. Assumes nothing.
-use mathlib.Core.Path.{_≡_, refl, sym, ap, _∙_}
-use Prim.Native.Nat.{ℕ, zero, suc, _+_, _-_, _*_, _/_, _≤_, _<_}
-use native.Mathlib.Nat.{mul-assoc, mul-comm, mul-left-comm, mul-add, add-mul, div-lt-iff-lt-mul, div-mul-le-self, lt-div-mul-add, mul-pos, div-eq-of-lt-le, zero-div, div-eq-of-lt}
+use mathlib.Core.Path.{_≡_, refl}
+use Prim.Native.Nat.{ℕ, zero, suc, _+_, _-_, _*_, _≤_, _<_}
+use native.Mathlib.Nat.{mul-comm, div-lt-iff-lt-mul, div-mul-le-self, lt-div-mul-add, div-eq-of-lt-le, div-eq-of-lt}
 use native.Mathlib.Omega.{arith}
 use Rattle.meaning.specs.Colours.{rounded, ceiling}
 

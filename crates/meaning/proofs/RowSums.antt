@@ -1,5 +1,5 @@
 -- A row's signed sum in 64 bits: it fits, and it is what the row adds less what it takes. Assumes nothing.
-use mathlib.Core.Path.{_≡_, refl, ap, _∙_}
+use mathlib.Core.Path.{_≡_, refl, sym, ap, _∙_}
 use mathlib.Core.List.{List}
 use Prim.Native.Nat.{ℕ, _+_, _*_, _^_, _≤_, _<_}
 use native.Mathlib.Nat.{mul-le-mul}
@@ -10,7 +10,7 @@ use mir.Syntax.{w32, w64}
 use mir.Val.{SFits, toZ, ofZ}
 use Rattle.std.proofs.shelf.Signed.{toZ-ofZ}
 use Rattle.meaning.specs.Colours.{at}
-use Rattle.meaning.specs.Matrices.{adds, takes, coefficient, weighted}
+use Rattle.meaning.specs.Matrices.{adds, takes, coefficient, weighted, Rows-are-signed-sums}
 
 -- far within 64 bits
 abbrev pub Small : ℤ → Type 0
@@ -87,3 +87,7 @@ pub row-signed : (es : List ℤ) (j : ℕ) (c : List ℕ) (x y z : ℤ) → x �
 row-signed es j c x y z is-x is-y is-z h i k =
     ap (λ s. toZ w64 (ofZ w64 s)) (three-back x y z h i k) ∙ toZ-ofZ w64 (x +ℤ y +ℤ z) (triple-fits x y z h i k)
     ∙ rw (is-x, is-y, is-z) (three-products (coefficient es j 0) (coefficient es j 1) (coefficient es j 2) (at c 0) (at c 1) (at c 2))
+
+-- the signed sum of a row by its parts
+pub rows-signed : Rows-are-signed-sums
+rows-signed es j c = sym (three-products (coefficient es j 0) (coefficient es j 1) (coefficient es j 2) (at c 0) (at c 1) (at c 2))

@@ -1,9 +1,8 @@
 -- Sums over the numbers below a bound, and what the samples of a table come to. Assumes nothing.
-use mathlib.Core.Path.{_≡_, refl, sym, ap, subst, _∙_}
+use mathlib.Core.Path.{_≡_, refl, sym, ap, _∙_}
 use mathlib.Core.Logic.{⊎-elim}
 use Prim.Native.Nat.{ℕ, zero, suc, _+_, _-_, _*_, _/_, _≤_, _<_}
-use native.Mathlib.Nat.{mul-assoc, mul-comm, mul-left-comm, mul-add, add-mul, mul-suc, suc-mul, mul-zero, zero-mul, add-zero, add-suc, div-eq-of-lt, add-div-right, div-div-eq-div-mul, mul-add-div, mul-le-mul-left, mul-le-mul-right, div-eq-of-lt-le, le-div-iff-mul-le, div-lt-iff-lt-mul, div-mul-le-self, add-comm, mul-div-cancel}
-use native.Mathlib.Numerals.{add-one}
+use native.Mathlib.Nat.{mul-comm, suc-mul, mul-zero, zero-mul, add-zero, add-suc, div-eq-of-lt, add-div-right, div-div-eq-div-mul, mul-add-div, div-eq-of-lt-le, le-div-iff-mul-le, div-mul-le-self}
 use native.Mathlib.Omega.{arith}
 use Rattle.std.proofs.shelf.Tests.{cases-lt}
 use Rattle.meaning.specs.Distances.{gap}
@@ -54,7 +53,7 @@ sum-times (suc n) m f = let e = sum-times n m f in omega arith
 -- the first n terms and the m after them
 pub sum-split : (n m : ℕ) (f : ℕ → ℕ) → sum-below (n + m) f ≡ sum-below n f + sum-below m (λ s. f (n + s))
 unfolding sum-below
-sum-split n zero f = rw add-zero (omega arith)
+sum-split n zero f = rw (add-zero n) (omega arith)
 sum-split n (suc m) f = rw add-suc (let e = sum-split n m f in omega arith)
 
 -- one step on: the first term is left out, and one more comes at the end

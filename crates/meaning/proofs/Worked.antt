@@ -1,14 +1,11 @@
 -- The worked figures hold. Assumes nothing.
-use mathlib.Core.Path.{_≡_, refl, sym, ap, _∙_}
-use mathlib.Core.List.{List, [], _∷_, map}
-use Prim.Native.Nat.{ℕ, _+_, _-_, _*_}
+use mathlib.Core.Path.{_≡_, refl}
+use mathlib.Core.List.{[], _∷_}
 use native.Mathlib.Omega.{arith}
-use Rattle.meaning.specs.declared.Channels.the-variants.{One}
-use Rattle.meaning.specs.Colours.{spread, rounded}
-use Rattle.meaning.specs.Sums.{sum-below, largest-below, samples}
-use Rattle.meaning.specs.Stages.{Meaning, joined, joined-error}
+use Rattle.meaning.specs.Colours.{spread}
+use Rattle.meaning.specs.Sums.{largest-below, samples}
 use Rattle.meaning.specs.Curves.{table-entry}
-use Rattle.meaning.specs.WorkedFigures.{Worked-figures, bent-curve, half-less-one, negated, colour, figures}
+use Rattle.meaning.specs.WorkedFigures.{Worked-figures, bent-curve}
 use Rattle.meaning.proofs.Sampling.{samples-closed}
 
 bend-low : samples (table-entry 3 (0 ∷ 1000 ∷ 65535 ∷ []) 0) 65535 65534 ≡ 65534000

@@ -1,9 +1,10 @@
 -- A matrix of nine signed coefficients in 65,536ths, row after row, from three channels to three.
+use mathlib.Core.Path.{_≡_}
 use mathlib.Core.Bool.{Bool, true, cond, _&&_}
 use mathlib.Core.List.{List, [], _∷_}
 use Prim.Native.Nat.{ℕ, suc, _+_, _-_, _*_, _%_, min}
 use lib.Dec.{eqb}
-use lib.IntN.{ℤ, pos, negsuc, natAbs}
+use lib.IntN.{ℤ, pos, negsuc, natAbs, _+ℤ_, _-ℤ_, _*ℤ_}
 use lib.ListN.{getD}
 use Rattle.meaning.specs.declared.Channels.the-variants.{Three}
 use Rattle.meaning.specs.Colours.{max-count, grains, half-count, at, Exact, spread}
@@ -31,6 +32,15 @@ weighted part es j c = part (coefficient es j 0) * at c 0 + part (coefficient es
 abbrev pub row-value : List ℤ → Exact → ℕ → ℕ
 row-value es x j = min (max-count * (grains * x .den)) (weighted adds es j (x .nums) - weighted takes es j (x .nums))
 
+-- row j's sum of e·a as a signed number
+abbrev pub signed-sum : List ℤ → ℕ → List ℕ → ℤ
+signed-sum es j c = coefficient es j 0 *ℤ pos (at c 0) +ℤ coefficient es j 1 *ℤ pos (at c 1) +ℤ coefficient es j 2 *ℤ pos (at c 2)
+
+-- what a row adds less what it takes is that signed sum
+abbrev pub Rows-are-signed-sums : Type 0
+Rows-are-signed-sums = (es : List ℤ) (j : ℕ) (c : List ℕ) → pos (weighted adds es j c) -ℤ pos (weighted takes es j c) ≡ signed-sum es j c
+
+-- the exact value: each row over 65,536 d
 abbrev pub matrix-exact : List ℤ → Exact → Exact
 matrix-exact es x = record { nums = spread 3 (row-value es x); den = grains * x .den }
 
@@ -38,6 +48,7 @@ matrix-exact es x = record { nums = spread 3 (row-value es x); den = grains * x 
 abbrev pub row-sum : List ℤ → ℕ → ℕ
 row-sum es j = natAbs (coefficient es j 0) + natAbs (coefficient es j 1) + natAbs (coefficient es j 2)
 
+-- the largest row sum
 abbrev pub matrix-steepness : List ℤ → ℕ
 matrix-steepness es = min unclaimed (largest-below 3 (row-sum es))
 
@@ -50,6 +61,7 @@ all-whole (e ∷ es) = eqb (natAbs e % grains) 0 && all-whole es
 abbrev pub matrix-error : List ℤ → ℕ
 matrix-error es = cond (all-whole es) 0 half-count
 
+-- a matrix, from three channels to three
 abbrev pub matrix : List ℤ → Meaning
 matrix es = rounding Three Three (matrix-exact es) (matrix-steepness es) (matrix-error es)
 

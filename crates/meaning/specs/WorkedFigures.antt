@@ -2,7 +2,7 @@
 use mathlib.Core.Path.{_≡_}
 use mathlib.Core.List.{List, [], _∷_}
 use Prim.Native.Nat.{ℕ}
-use lib.IntN.{ℤ, pos, negsuc}
+use lib.IntN.{pos, negsuc}
 use Rattle.meaning.specs.declared.Channels.the-variants.{One}
 use Rattle.meaning.specs.Colours.{at}
 use Rattle.meaning.specs.Stages.{Meaning, joined}

@@ -2,9 +2,10 @@
 // here work out the figures that are quoted for a stage, and their contracts name the theorems.
 ghost use mathlib.Core.Bool.{cond};
 ghost use mathlib.Core.Path.{_≡_};
-ghost use Rattle.meaning.specs.Colours.{half-count, number};
+ghost use Prim.Native.Nat.{_*_};
+ghost use Rattle.meaning.specs.Colours.{ceiling, half-count, number};
 ghost use Rattle.meaning.specs.Curves.{curve-steepness, Curves-keep-the-laws};
-ghost use Rattle.meaning.specs.Matrices.{Matrices-keep-the-laws};
+ghost use Rattle.meaning.specs.Matrices.{Matrices-keep-the-laws, Rows-are-signed-sums};
 ghost use Rattle.meaning.specs.Stages.{Equal-in-equal-out, Joining-keeps-the-laws, joined-error, joined-steepness};
 ghost use Rattle.meaning.specs.WorkedFigures.{Worked-figures, figures};
 
@@ -64,6 +65,11 @@ fn matrices_keep_the_laws()
     ensures { λ _. ⌜ Matrices-keep-the-laws ⌝ }
 {}
 
+// Names the theorem: the value of a matrix row is its signed sum.
+fn rows_are_signed_sums()
+    ensures { λ _. ⌜ Rows-are-signed-sums ⌝ }
+{}
+
 // Names the worked figures, as one statement.
 fn figures_hold()
     ensures { λ _. ⌜ Worked-figures ⌝ }
@@ -108,13 +114,23 @@ pub fn curve_steepness(length: u16, step: u16) -> u32
 }
 
 // The error of a matrix: none where all its coefficients are whole, else half a count. With it, matrices
-// keep the laws.
+// keep the laws; and what is held to the range in each row is the row's signed sum.
 pub fn matrix_error(whole: bool) -> u32
     ensures value { λ r. ⌜ r ≡ cond whole 0 half-count ⌝ }
     ensures law { λ _. ⌜ Matrices-keep-the-laws ⌝ }
+    ensures signed { λ _. ⌜ Rows-are-signed-sums ⌝ }
 {
     matrices_keep_the_laws();
+    rows_are_signed_sums();
     if whole { 0 } else { HALF_COUNT }
+}
+
+// Grains as 100,000ths of a count, rounded up: a bound that is shown in counts with five decimals is never
+// shown too small.
+pub fn counts_rounded_up(grains: u32) -> u64
+    ensures { λ r. ⌜ r ≡ ceiling (grains * 100000) 65536 ⌝ }
+{
+    (grains as u64 * 100_000 + 65_535) / 65_536
 }
 
 // The worked figures: two answers of a bent curve and its steepness, an answer rounded upward and one

@@ -1,10 +1,10 @@
 -- The counts that bytes stand for, read one at a time. Assumes nothing.
-use mathlib.Core.Path.{_≡_, refl, sym, ap, _∙_}
+use mathlib.Core.Path.{_≡_, refl}
 use mathlib.Core.List.{List, [], _∷_, map}
 use Prim.Native.Nat.{ℕ, zero, suc, _+_, _*_, _≤_, _<_}
 use native.Mathlib.Omega.{arith}
 use lib.ListN.{length, getD}
-use Rattle.std.proofs.shelf.Lists.{getD-past, length-map, getD-map}
+use Rattle.std.proofs.shelf.Lists.{getD-past, length-map}
 use Rattle.stage.specs.Entries.{wide}
 
 pub wide-at : (bytes : List ℕ) (i : ℕ) → 2 * i + 1 < length bytes → getD (wide bytes) i 0 ≡ 256 * getD bytes (2 * i) 0 + getD bytes (2 * i + 1) 0

@@ -3,7 +3,7 @@ ghost use mathlib.Core.Path.{_≡_};
 ghost use Prim.Native.Nat.{_+_, _-_, _*_, _/_, _%_, _≤_, _<_};
 ghost use denote.Ref.{now};
 ghost use Rattle.meaning.proofs.CurveLaws.{curves-lawful};
-ghost use Rattle.meaning.specs.Colours.{number, rounded};
+ghost use Rattle.meaning.specs.Colours.{rounded};
 ghost use Rattle.meaning.specs.Curves.{curves, entry, largest-step, table-entry};
 ghost use Rattle.meaning.specs.Distances.{gap};
 ghost use Rattle.meaning.specs.Sums.{largest-below, samples};
@@ -120,7 +120,7 @@ pub impl<E: Entries> Stage for Curves<E> as CurvesStage {
     }
 
     fn outs(&self) -> Channels {
-        self.channels
+        self.ins()
     }
 
     fn steepness(&self) -> u32 {

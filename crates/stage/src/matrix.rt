@@ -112,7 +112,7 @@ pub impl Stage for Matrix as MatrixStage {
     }
 
     fn outs(&self) -> Channels {
-        Channels::Three
+        self.ins()
     }
 
     fn steepness(&self) -> u32 {
