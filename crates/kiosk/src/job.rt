@@ -130,23 +130,21 @@ fn read_counts(heap: Global, words: SplitWhitespace<'_>) -> Result<Vec<u16>, Rea
     Ok(counts)
 }
 
-fn read_matrix(words: SplitWhitespace<'_>) -> Result<[i32; 9], Reason> {
+fn read_matrix(mut words: SplitWhitespace<'_>) -> Result<[i32; 9], Reason> {
     let mut coefficients = [0; 9];
-    let mut filled = 0;
-    for word in words {
-        let Ok(coefficient) = word.parse::<i32>() else {
+    for coefficient in coefficients.iter_mut() {
+        let Some(word) = words.next() else {
             return Err(Reason::NotNineCoefficients);
         };
-        if filled >= 9 {
+        let Ok(number) = word.parse::<i32>() else {
             return Err(Reason::NotNineCoefficients);
-        }
-        coefficients[filled] = coefficient;
-        filled += 1;
+        };
+        *coefficient = number;
     }
-    if filled < 9 {
-        return Err(Reason::NotNineCoefficients);
+    match words.next() {
+        None => Ok(coefficients),
+        Some(_) => Err(Reason::NotNineCoefficients),
     }
-    Ok(coefficients)
 }
 
 fn read_tables(heap: Global, mut words: SplitWhitespace<'_>) -> Result<Tables, Reason> {

@@ -22,5 +22,5 @@ pub record LawfulKind {P : Type 0} (k : Kind P) : Type 0 where
   pub zero-beyond : (p : P) (j : ℕ) → number (k .channels) ≤ j → at (k .shown p) j ≡ 0
   -- a pixel made from a colour is within the error of it in each channel of the kind
   pub close : (c : List ℕ) → Colour c → (j : ℕ) → j < number (k .channels) → gap (at (k .shown (k .made c)) j) (at c j) * grains ≤ k .error
-  -- a pixel made from a shown colour shows that colour
+  -- showing a pixel and making it again loses nothing of what it shows
   pub back : (p : P) → k .shown (k .made (k .shown p)) ≡ k .shown p

@@ -7,6 +7,7 @@ use lib.Dec.{eqb}
 use lib.ListN.{length, getD}
 use Rattle.std.specs.declared.option.Option.{Option}
 use Rattle.std.specs.declared.option.Option.the-variants.{Some, None}
+use Rattle.std.specs.declared.result.Result.{Result}
 use Rattle.meaning.specs.declared.Channels.{Channels}
 use Rattle.meaning.specs.Colours.{grains, full-range, number, at, num, Exact, whole}
 use Rattle.meaning.specs.Distances.{Over}
@@ -14,6 +15,7 @@ use Rattle.meaning.specs.Stages.{Meaning}
 use Rattle.link.specs.declared.refusal.Refusal.{Refusal}
 use Rattle.link.specs.declared.refusal.Refusal.the-variants.{RowLengths, PixelChannels}
 use Rattle.link.specs.Kinds.{Kind}
+use Rattle.link.specs.Refusals.{answered, left}
 
 -- why a row is refused: its pixels have not the stage's channels, or the rows (long pixels enter, wide leave) differ in length
 abbrev pub row-refusal : Meaning → Channels → Channels → ℕ → ℕ → Option Refusal
@@ -33,6 +35,14 @@ row-pixel m kp kq p = kq .made (m .answer (kp .shown p))
 -- the pixels that leave
 abbrev pub row-pixels : {P Q : Type 0} → Meaning → Kind P → Kind Q → List P → List Q
 row-pixels m kp kq entering = map (row-pixel m kp kq) entering
+
+-- what a row call answers: the bound, or why it is refused
+abbrev pub row-answer : {P Q : Type 0} → Meaning → Kind P → Kind Q → List P → List Q → Result ℕ Refusal
+row-answer m kp kq entering leaving = answered (row-refusal m (kp .channels) (kq .channels) (length entering) (length leaving)) (row-bound m (kq .error))
+
+-- the leaving row after the call: the pixels that leave, or the row as it stood
+abbrev pub row-left : {P Q : Type 0} → Meaning → Kind P → Kind Q → List P → List Q → List Q
+row-left m kp kq entering leaving = left (row-refusal m (kp .channels) (kq .channels) (length entering) (length leaving)) leaving (row-pixels m kp kq entering)
 
 -- a count is within a bound, in grains, of the value of channel k of an exact colour
 abbrev pub Within : ℕ → ℕ → Exact → ℕ → Type 0

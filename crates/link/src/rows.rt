@@ -3,8 +3,8 @@ ghost use mathlib.Core.Path.{_≡_};
 ghost use Prim.Native.Nat.{_+_, min};
 ghost use lib.ListN.{length};
 ghost use Rattle.meaning.specs.Colours.{full-range};
-ghost use Rattle.link.specs.Refusals.{answered, left, Accepted};
-ghost use Rattle.link.specs.Rows.{row-refusal, row-bound, row-pixel, row-pixels, Delivers};
+ghost use Rattle.link.specs.Refusals.{Accepted};
+ghost use Rattle.link.specs.Rows.{row-refusal, row-answer, row-left, row-pixel, row-pixels, Delivers};
 use crate::pixel::Pixel;
 use crate::refusal::Refusal;
 use meaning::FULL_RANGE;
@@ -60,8 +60,8 @@ fn send<S: Stage, P: Pixel, Q: Pixel + Copy>(
     entering: &[P],
     leaving: &mut [Q],
 ) -> Result<u32, Refusal>
-    ensures answer { λ r. ⌜ r ≡ answered (row-refusal (S·Stage .meaning (now (stage .entry))) (P·Pixel .kind .channels) (Q·Pixel .kind .channels) (length (now (entering .entry))) (length (now (leaving .entry)))) (row-bound (S·Stage .meaning (now (stage .entry))) (Q·Pixel .kind .error)) ⌝ }
-    ensures leaving { λ _. ⌜ now (leaving .exit) ≡ left (row-refusal (S·Stage .meaning (now (stage .entry))) (P·Pixel .kind .channels) (Q·Pixel .kind .channels) (length (now (entering .entry))) (length (now (leaving .entry)))) (now (leaving .entry)) (row-pixels (S·Stage .meaning (now (stage .entry))) (P·Pixel .kind) (Q·Pixel .kind) (now (entering .entry))) ⌝ }
+    ensures answer { λ r. ⌜ r ≡ row-answer (S·Stage .meaning (now (stage .entry))) (P·Pixel .kind) (Q·Pixel .kind) (now (entering .entry)) (now (leaving .entry)) ⌝ }
+    ensures leaving { λ _. ⌜ now (leaving .exit) ≡ row-left (S·Stage .meaning (now (stage .entry))) (P·Pixel .kind) (Q·Pixel .kind) (now (entering .entry)) (now (leaving .entry)) ⌝ }
 {
     if let Some(refusal) = refused(stage, entering, leaving) {
         return Err(refusal);
@@ -77,8 +77,8 @@ pub fn row<S: Stage, P: Pixel, Q: Pixel + Copy>(
     entering: &[P],
     leaving: &mut [Q],
 ) -> Result<u32, Refusal>
-    ensures answer { λ r. ⌜ r ≡ answered (row-refusal (S·Stage .meaning (now (stage .entry))) (P·Pixel .kind .channels) (Q·Pixel .kind .channels) (length (now (entering .entry))) (length (now (leaving .entry)))) (row-bound (S·Stage .meaning (now (stage .entry))) (Q·Pixel .kind .error)) ⌝ }
-    ensures leaving { λ _. ⌜ now (leaving .exit) ≡ left (row-refusal (S·Stage .meaning (now (stage .entry))) (P·Pixel .kind .channels) (Q·Pixel .kind .channels) (length (now (entering .entry))) (length (now (leaving .entry)))) (now (leaving .entry)) (row-pixels (S·Stage .meaning (now (stage .entry))) (P·Pixel .kind) (Q·Pixel .kind) (now (entering .entry))) ⌝ }
+    ensures answer { λ r. ⌜ r ≡ row-answer (S·Stage .meaning (now (stage .entry))) (P·Pixel .kind) (Q·Pixel .kind) (now (entering .entry)) (now (leaving .entry)) ⌝ }
+    ensures leaving { λ _. ⌜ now (leaving .exit) ≡ row-left (S·Stage .meaning (now (stage .entry))) (P·Pixel .kind) (Q·Pixel .kind) (now (entering .entry)) (now (leaving .entry)) ⌝ }
     ensures within { λ r. ⌜ Accepted r (λ bound. Delivers (S·Stage .meaning (now (stage .entry))) (P·Pixel .kind) (Q·Pixel .kind) (now (entering .entry)) (now (leaving .exit)) bound) ⌝ }
 {
     send(stage, entering, leaving)

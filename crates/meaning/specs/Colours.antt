@@ -59,11 +59,11 @@ pub record Valid (x : Exact) : Type 0 where
   pub positive : 0 < x .den
   pub within : (k : ℕ) → num x k ≤ max-count * x .den
 
--- a colour is an exact colour with denominator 1
+-- a colour, written over the denominator 1
 abbrev pub whole : List ℕ → Exact
 whole c = record { nums = c; den = 1 }
 
--- all numerators and the denominator multiplied by one number
+-- the same colour, written n times larger
 abbrev pub scale : ℕ → Exact → Exact
 scale n x = record { nums = map (λ a. n * a) (x .nums); den = n * x .den }
 

@@ -22,7 +22,7 @@ curves-exact w n counts x = record {
   den = max-count * x .den;
 }
 
--- the largest difference between neighbours in any channel's table
+-- how far neighbouring entries of any table lie apart at most
 abbrev pub largest-step : Channels → ℕ → List ℕ → ℕ
 largest-step w n counts =
     largest-below (number w) (λ k. largest-below (n - 1) (λ i. gap (table-entry n counts k i) (table-entry n counts k (i + 1))))

@@ -1,4 +1,4 @@
--- A matrix of nine signed coefficients in 65,536ths, row after row, from three channels to three.
+-- A 3×3 matrix: signed coefficients in 65,536ths, stored by rows.
 use mathlib.Core.Path.{_≡_}
 use mathlib.Core.Bool.{Bool, true, cond, _&&_}
 use mathlib.Core.List.{List, [], _∷_}

@@ -27,12 +27,12 @@ pub record Lawful (m : Meaning) : Type 0 where
   -- both figures are within their limits
   pub steepness-limit : m .steepness ≤ unclaimed
   pub error-limit : m .error ≤ full-range
-  -- the exact map stays within the range of an exact colour, and is 0 beyond the out-channels
+  -- an exact colour goes to an exact colour, which is 0 beyond the out-channels
   pub stays : (x : Exact) → Valid x → Valid (m .exact x)
   pub zero-beyond : (x : Exact) → Valid x → (k : ℕ) → number (m .outs) ≤ k → num (m .exact x) k ≡ 0
-  -- multiplying numerators and denominator by one number above 0 gives an equal result
+  -- how a colour is written does not matter: scaled up, it has an equal result
   pub scales : (n : ℕ) → 0 < n → (x : Exact) → Valid x → Same (m .exact (scale n x)) (m .exact x)
-  -- where a steepness is claimed: colours p/q counts apart have results steepness · p/q grains apart
+  -- where a steepness is claimed, colours at most p/q counts apart have results at most steepness · p/q grains apart
   pub steep : m .steepness < unclaimed → (p q : ℕ) → 0 < q → (x y : Exact) → Valid x → Valid y → Near p q x y → Near (m .steepness * p) (grains * q) (m .exact x) (m .exact y)
   -- an answer is a colour, 0 beyond the out-channels, and within the error of the exact value
   pub answers : (c : List ℕ) → Colour c → Colour (m .answer c)
@@ -51,7 +51,7 @@ joined-steepness l m = cond (eqb l unclaimed || eqb m unclaimed) unclaimed (min 
 abbrev pub joined-error : ℕ → ℕ → ℕ → ℕ
 joined-error m d e = cond (eqb m unclaimed) full-range (min full-range (ceiling (m * d) grains + e))
 
--- two stages joined: the second's map and answer after the first's
+-- two stages joined: first a runs, then b
 abbrev pub joined : Meaning → Meaning → Meaning
 joined a b = record {
   ins = a .ins;

@@ -4,10 +4,9 @@ ghost use Prim.Native.Nat.{_+_, _-_, _*_, _/_, _%_, _≤_, _<_};
 ghost use denote.Ref.{now};
 ghost use Rattle.meaning.proofs.CurveLaws.{curves-lawful};
 ghost use Rattle.meaning.specs.Colours.{rounded};
-ghost use Rattle.meaning.specs.Curves.{curves, entry, largest-step, table-entry};
-ghost use Rattle.meaning.specs.Distances.{gap};
+ghost use Rattle.meaning.specs.Curves.{curves, largest-step};
 ghost use Rattle.meaning.specs.Sums.{largest-below, samples};
-ghost use Rattle.stage.specs.Curves.{curves-over};
+ghost use Rattle.stage.specs.Curves.{curves-over, curve-entry, curve-step};
 use crate::entries::Entries;
 use crate::traits::Colour;
 use crate::traits::Stage;
@@ -60,7 +59,7 @@ impl<E: Entries> Curves<E> {
     // The entry at `index` of a channel's table.
     fn entry(&self, channel: usize, index: usize) -> u16
         requires { ⌜ channel < 4 ⌝ ∗ ⌜ index ≤ 65536 ⌝ }
-        ensures { λ r. ⌜ r ≡ table-entry (now (self .entry) .length) (E·Entries .counts (now (self .entry) .table)) channel index ⌝ }
+        ensures { λ r. ⌜ r ≡ curve-entry (E·Entries .counts) (now (self .entry)) channel index ⌝ }
     {
         self.table.entry(channel * self.length as usize + index)
     }
@@ -68,7 +67,7 @@ impl<E: Entries> Curves<E> {
     // One channel's answer: the samples of its table at the count's position, rounded once.
     fn value(&self, channel: usize, count: u16) -> u16
         requires { ⌜ channel < 4 ⌝ }
-        ensures { λ r. ⌜ r ≡ rounded (samples (table-entry (now (self .entry) .length) (E·Entries .counts (now (self .entry) .table)) channel) 65535 (count * (now (self .entry) .length - 1))) 65535 ⌝ }
+        ensures { λ r. ⌜ r ≡ rounded (samples (curve-entry (E·Entries .counts) (now (self .entry)) channel) 65535 (count * (now (self .entry) .length - 1))) 65535 ⌝ }
     {
         let position = count as u32 * self.length.saturating_sub(1) as u32;
         let index = (position / 65_535) as usize;
@@ -80,7 +79,7 @@ impl<E: Entries> Curves<E> {
     // The difference of an entry and the next one.
     fn step(&self, channel: usize, index: usize) -> u16
         requires { ⌜ channel < 4 ⌝ ∗ ⌜ index < 65536 ⌝ }
-        ensures { λ r. ⌜ r ≡ gap (table-entry (now (self .entry) .length) (E·Entries .counts (now (self .entry) .table)) channel index) (table-entry (now (self .entry) .length) (E·Entries .counts (now (self .entry) .table)) channel (index + 1)) ⌝ }
+        ensures { λ r. ⌜ r ≡ curve-step (E·Entries .counts) (now (self .entry)) channel index ⌝ }
     {
         self.entry(channel, index)
             .abs_diff(self.entry(channel, index + 1))
@@ -89,7 +88,7 @@ impl<E: Entries> Curves<E> {
     // The largest difference of neighbours in one channel's table.
     fn table_step(&self, channel: usize) -> u16
         requires { ⌜ channel < 4 ⌝ }
-        ensures { λ r. ⌜ r ≡ largest-below (now (self .entry) .length - 1) (λ i. gap (table-entry (now (self .entry) .length) (E·Entries .counts (now (self .entry) .table)) channel i) (table-entry (now (self .entry) .length) (E·Entries .counts (now (self .entry) .table)) channel (i + 1))) ⌝ }
+        ensures { λ r. ⌜ r ≡ largest-below (now (self .entry) .length - 1) (curve-step (E·Entries .counts) (now (self .entry)) channel) ⌝ }
     {
         let mut largest: u16 = 0;
         for i in 0..self.length.saturating_sub(1) as usize {

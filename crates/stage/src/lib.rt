@@ -4,7 +4,6 @@ pub mod curves;
 pub mod entries;
 pub mod joined;
 pub mod matrix;
-pub mod selftest;
 pub mod traits;
 
 pub use curves::Curves;
@@ -20,7 +19,6 @@ pub use joined::Joined;
 pub use joined::JoinedStage;
 pub use matrix::Matrix;
 pub use matrix::MatrixStage;
-pub use selftest::measured_figures;
 pub use traits::Colour;
 pub use traits::LentStage;
 pub use traits::Stage;
