@@ -200,7 +200,7 @@ fn take_line(heap: Global, job: &mut Job, line: &str) -> Result<(), Reason> {
 
 impl Job {
     // The job that a text describes, or the first line that is wrong.
-    pub fn read(heap: Global, text: &str) -> Result<Job, BadLine> {
+    pub(crate) fn read(heap: Global, text: &str) -> Result<Job, BadLine> {
         let mut job = Job {
             matrix: None,
             tables: None,

@@ -159,7 +159,7 @@ fn run_matrix(rt: &LibcRuntime, coefficients: [i32; 9], job: &Job) -> Result<(),
 }
 
 // Prints the stages of a job and runs its rows.
-pub fn run(rt: &LibcRuntime, job: &Job) -> Result<(), AnyError> {
+pub(crate) fn run(rt: &LibcRuntime, job: &Job) -> Result<(), AnyError> {
     if let Some(coefficients) = job.matrix {
         return run_matrix(rt, coefficients, job);
     }

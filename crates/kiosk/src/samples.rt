@@ -105,7 +105,7 @@ pub impl Sampled for Rgb16 as Rgb16Sampled {
 }
 
 // A row of pixels from its samples, one pixel after the other.
-pub fn pixels<P: Sampled>(heap: Global, samples: &[u16]) -> Result<Vec<P>, Reason> {
+pub(crate) fn pixels<P: Sampled>(heap: Global, samples: &[u16]) -> Result<Vec<P>, Reason> {
     let mut row = Vec::new(heap);
     for part in samples.chunks(P::channels().count()) {
         match P::from_samples(part) {

@@ -45,7 +45,7 @@ fn measured_figures() -> Option<[u32; 6]>
     ])
 }
 
-pub fn run(rt: &LibcRuntime) -> Result<(), AnyError> {
+pub(crate) fn run(rt: &LibcRuntime) -> Result<(), AnyError> {
     println!(rt, "selftest")?;
     let Some(measured) = measured_figures() else {
         return Err("the curve was refused".into());
