@@ -4,15 +4,14 @@
 //     curves CHANNELS LENGTH ENTRY ..   tables of LENGTH entries, one after the other
 //     row ENTERS LEAVES SAMPLE ..       pixel kinds gray8, rgb8, cmyk8 or rgb16, and the entering samples
 use meaning::Channels;
-use std::alloc::AllocError;
 use std::alloc::Global;
 use std::alloc::Refused;
 use std::fmt;
 use std::str::SplitWhitespace;
 
 // The pixel kinds by name.
-#[derive(Clone, Copy, PartialEq, Eq)]
-pub enum KindName {
+#[derive(Clone, Copy)]
+pub(crate) enum KindName {
     Gray8,
     Rgb8,
     Cmyk8,
@@ -21,29 +20,29 @@ pub enum KindName {
 
 // The tables of curves: `length` entries for each channel.
 #[derive(Drop)]
-pub struct Tables {
+pub(crate) struct Tables {
     pub channels: Channels,
     pub length: u16,
     pub entries: Vec<u16>,
 }
 
 #[derive(Drop)]
-pub struct RowTask {
+pub(crate) struct RowTask {
     pub enters: KindName,
     pub leaves: KindName,
     pub samples: Vec<u16>,
 }
 
 #[derive(Drop)]
-pub struct Job {
+pub(crate) struct Job {
     pub matrix: Option<[i32; 9]>,
     pub tables: Option<Tables>,
     pub rows: Vec<RowTask>,
 }
 
 // What is wrong with a line.
-#[derive(Clone, Copy, PartialEq, Eq)]
-pub enum Reason {
+#[derive(Clone, Copy)]
+pub(crate) enum Reason {
     UnknownWord,
     SecondMatrix,
     SecondCurves,
@@ -56,16 +55,10 @@ pub enum Reason {
     Memory,
 }
 
-#[derive(Clone, Copy, PartialEq, Eq)]
-pub struct BadLine {
+#[derive(Clone, Copy)]
+pub(crate) struct BadLine {
     pub line: usize,
     pub reason: Reason,
-}
-
-pub impl From<AllocError> for Reason as ReasonFromAlloc {
-    fn from(_e: AllocError) -> Reason {
-        Reason::Memory
-    }
 }
 
 pub impl<T: Drop> From<Refused<T>> for Reason as ReasonFromRefused {
@@ -84,9 +77,7 @@ pub impl fmt::Display for Reason as ReasonDisplay {
                 "a matrix is nine whole numbers from -2147483648 to 2147483647",
             ),
             Reason::NotAChannelNumber => f.write_str("curves have 1, 3 or 4 channels"),
-            Reason::NotALength => f.write_str(
-                "the entries of a table are told by a whole number up to 65535",
-            ),
+            Reason::NotALength => f.write_str("a table has 2 to 4096 entries"),
             Reason::NotACount => f.write_str(
                 "entries and samples are whole numbers from 0 to 65535",
             ),
@@ -152,8 +143,9 @@ fn read_tables(heap: Global, mut words: SplitWhitespace<'_>) -> Result<Tables, R
     let Some(word) = words.next() else {
         return Err(Reason::NotALength);
     };
-    let Ok(length) = word.parse::<u16>() else {
-        return Err(Reason::NotALength);
+    let length = match word.parse::<u16>() {
+        Ok(length) if length >= 2 && length <= 4096 => length,
+        _ => return Err(Reason::NotALength),
     };
     let entries = read_counts(heap, words)?;
     Ok(Tables {

@@ -14,13 +14,14 @@ use link::Cmyk8;
 use link::Cmyk8Pixel;
 use link::Gray8;
 use link::Gray8Pixel;
-use link::RefusalDisplay;
+use link::Refusal;
 use link::Rgb8;
 use link::Rgb8Pixel;
 use link::Rgb16;
 use link::Rgb16Pixel;
 use link::row;
-use meaning::counts_rounded_up;
+use meaning::CHANNELS;
+use meaning::hundred_thousandths;
 use stage::Curves;
 use stage::CurvesStage;
 use stage::Joined;
@@ -35,7 +36,7 @@ use std::error::AnyError;
 // A pixel's numbers, with a space before each.
 fn print_pixel<P: Sampled>(rt: &LibcRuntime, pixel: &P) -> Result<(), AnyError> {
     let samples = pixel.samples();
-    for sample in samples.iter().take(P::channels().count()) {
+    for sample in samples.iter().take(P::channels().number()) {
         print!(rt, " {sample}")?;
     }
     Ok(())
@@ -43,13 +44,24 @@ fn print_pixel<P: Sampled>(rt: &LibcRuntime, pixel: &P) -> Result<(), AnyError> 
 
 // A bound in grains, and in counts with five decimals.
 fn print_bound(rt: &LibcRuntime, grains: u32) -> Result<(), AnyError> {
-    let parts = counts_rounded_up(grains);
+    let parts = hundred_thousandths(grains);
     let counts = parts / 100_000;
     let decimals = parts % 100_000;
     println!(
         rt,
         "  bound: {grains} grains, {counts}.{decimals:05} counts"
     )?;
+    Ok(())
+}
+
+// Why a row was refused, with its number.
+fn print_refusal(rt: &LibcRuntime, refusal: Refusal) -> Result<(), AnyError> {
+    let number = refusal.number();
+    print!(rt, "  refused, {number}: ")?;
+    match refusal {
+        Refusal::RowLengths => println!(rt, "the two rows are not equally long")?,
+        Refusal::PixelChannels => println!(rt, "the pixels' channels are not the stage's")?,
+    }
     Ok(())
 }
 
@@ -68,13 +80,13 @@ fn run_row<S: Stage, P: Sampled, Q: Sampled>(
             return Ok(());
         }
     };
+    let blank = Q::make(&[0; CHANNELS]);
     let mut leaving: Vec<Q> = Vec::new(rt.alloc());
-    let blank = Q::make(&[0; 4]);
     for _ in entering.iter() {
         leaving.push(blank)?;
     }
     match row(stage, entering.as_slice(), leaving.as_mut_slice()) {
-        Err(refusal) => println!(rt, "  refused, {refusal}")?,
+        Err(refusal) => print_refusal(rt, refusal)?,
         Ok(bound) => {
             for (p, q) in entering.iter().zip(leaving.iter()) {
                 print!(rt, "   ")?;
@@ -114,8 +126,8 @@ fn run_task<S: Stage>(rt: &LibcRuntime, stage: &S, task: &RowTask) -> Result<(),
 
 // What a stage tells of itself.
 fn print_stage<S: Stage>(rt: &LibcRuntime, name: &str, stage: &S) -> Result<(), AnyError> {
-    let ins = stage.ins().count();
-    let outs = stage.outs().count();
+    let ins = stage.ins().number();
+    let outs = stage.outs().number();
     let steepness = stage.steepness();
     let error = stage.error();
     println!(
@@ -125,7 +137,7 @@ fn print_stage<S: Stage>(rt: &LibcRuntime, name: &str, stage: &S) -> Result<(), 
     Ok(())
 }
 
-fn run_all<S: Stage>(rt: &LibcRuntime, stage: &S, rows: &Vec<RowTask>) -> Result<(), AnyError> {
+fn run_all<S: Stage>(rt: &LibcRuntime, stage: &S, rows: &[RowTask]) -> Result<(), AnyError> {
     for task in rows.iter() {
         run_task(rt, stage, task)?;
     }
@@ -146,7 +158,7 @@ fn run_matrix(rt: &LibcRuntime, coefficients: [i32; 9], job: &Job) -> Result<(),
     let matrix = Matrix::new(coefficients);
     print_stage(rt, "matrix", &matrix)?;
     let Some(tables) = &job.tables else {
-        return run_all(rt, &matrix, &job.rows);
+        return run_all(rt, &matrix, job.rows.as_slice());
     };
     let curves = curves_of(tables)?;
     print_stage(rt, "curves", &curves)?;
@@ -155,7 +167,7 @@ fn run_matrix(rt: &LibcRuntime, coefficients: [i32; 9], job: &Job) -> Result<(),
         second: curves,
     };
     print_stage(rt, "joined", &joined)?;
-    run_all(rt, &joined, &job.rows)
+    run_all(rt, &joined, job.rows.as_slice())
 }
 
 // Prints the stages of a job and runs its rows.
@@ -168,5 +180,5 @@ pub(crate) fn run(rt: &LibcRuntime, job: &Job) -> Result<(), AnyError> {
     };
     let curves = curves_of(tables)?;
     print_stage(rt, "curves", &curves)?;
-    run_all(rt, &curves, &job.rows)
+    run_all(rt, &curves, job.rows.as_slice())
 }

@@ -10,17 +10,18 @@ use link::Rgb8;
 use link::Rgb8Pixel;
 use link::Rgb16;
 use link::Rgb16Pixel;
+use meaning::CHANNELS;
 use std::alloc::Global;
 
 // A pixel kind whose pixels are written as one number for each channel.
-pub trait Sampled: Pixel + Copy {
+pub(crate) trait Sampled: Pixel {
     fn name() -> &'static str;
 
     // The pixel of the first numbers of a list, or nothing where one is missing or too large.
     fn from_samples(samples: &[u16]) -> Option<Self>;
 
     // The numbers of a pixel, 0 beyond its channels.
-    fn samples(&self) -> [u16; 4];
+    fn samples(&self) -> [u16; CHANNELS];
 }
 
 fn byte(samples: &[u16], k: usize) -> Option<u8> {
@@ -39,7 +40,7 @@ pub impl Sampled for Gray8 as Gray8Sampled {
         })
     }
 
-    fn samples(&self) -> [u16; 4] {
+    fn samples(&self) -> [u16; CHANNELS] {
         [self.value as u16, 0, 0, 0]
     }
 }
@@ -57,7 +58,7 @@ pub impl Sampled for Rgb8 as Rgb8Sampled {
         })
     }
 
-    fn samples(&self) -> [u16; 4] {
+    fn samples(&self) -> [u16; CHANNELS] {
         [self.red as u16, self.green as u16, self.blue as u16, 0]
     }
 }
@@ -76,7 +77,7 @@ pub impl Sampled for Cmyk8 as Cmyk8Sampled {
         })
     }
 
-    fn samples(&self) -> [u16; 4] {
+    fn samples(&self) -> [u16; CHANNELS] {
         [
             self.cyan as u16,
             self.magenta as u16,
@@ -99,7 +100,7 @@ pub impl Sampled for Rgb16 as Rgb16Sampled {
         })
     }
 
-    fn samples(&self) -> [u16; 4] {
+    fn samples(&self) -> [u16; CHANNELS] {
         [self.red, self.green, self.blue, 0]
     }
 }
@@ -107,7 +108,7 @@ pub impl Sampled for Rgb16 as Rgb16Sampled {
 // A row of pixels from its samples, one pixel after the other.
 pub(crate) fn pixels<P: Sampled>(heap: Global, samples: &[u16]) -> Result<Vec<P>, Reason> {
     let mut row = Vec::new(heap);
-    for part in samples.chunks(P::channels().count()) {
+    for part in samples.chunks(P::channels().number()) {
         match P::from_samples(part) {
             Some(pixel) => row.push(pixel)?,
             None => return Err(Reason::NotASample),

@@ -17,11 +17,11 @@ use Rattle.link.specs.declared.refusal.Refusal.the-variants.{RowLengths, Pixel
 use Rattle.link.specs.Kinds.{Kind}
 use Rattle.link.specs.Refusals.{answered, left}
 
--- why a row is refused: its pixels have not the stage's channels, or the rows (long pixels enter, wide leave) differ in length
+-- why a row is refused: its pixels have not the stage's channels, or another number of pixels enters than leaves
 abbrev pub row-refusal : Meaning → Channels → Channels → ℕ → ℕ → Option Refusal
-row-refusal m enters leaves long wide =
+row-refusal m enters leaves entering leaving =
     cond (eqb (number (m .ins)) (number enters) && eqb (number (m .outs)) (number leaves))
-    (cond (eqb long wide) None (Some RowLengths))
+    (cond (eqb entering leaving) None (Some RowLengths))
     (Some PixelChannels)
 
 -- the error bound of a row, in grains: the stage's error and the leaving kind's, held to the full range
@@ -48,8 +48,8 @@ row-left m kp kq entering leaving = left (row-refusal m (kp .channels) (kq .chan
 abbrev pub Within : ℕ → ℕ → Exact → ℕ → Type 0
 Within bound count x k = Over bound grains count 1 (num x k) (x .den) × Over bound grains (num x k) (x .den) count 1
 
--- every count that a leaving pixel shows is within the bound of the stage's exact value at the colour that the
--- entering pixel at its place shows
+-- what a row is for: place by place, no channel of what leaves strays from the exact value for what entered by more
+-- than the bound
 pub record Delivers {P Q : Type 0} (m : Meaning) (kp : Kind P) (kq : Kind Q) (entering : List P) (leaving : List Q) (bound : ℕ) : Type 0 where
   pub as-long : length leaving ≡ length entering
   pub within : (i : ℕ) → i < length entering → (p : P) (q : Q) (k : ℕ) → k < number (kq .channels) → Within bound (at (kq .shown (getD leaving i q)) k) (m .exact (whole (kp .shown (getD entering i p)))) k

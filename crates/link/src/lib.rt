@@ -13,5 +13,4 @@ pub use pixel::Rgb8Pixel;
 pub use pixel::Rgb16;
 pub use pixel::Rgb16Pixel;
 pub use refusal::Refusal;
-pub use refusal::RefusalDisplay;
 pub use rows::row;

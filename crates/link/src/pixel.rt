@@ -9,12 +9,15 @@ use meaning::Channels;
 use meaning::GRAINS;
 use stage::Colour;
 
-pub trait Pixel {
+// A pixel kind. Its pixels are plain values.
+pub trait Pixel: Copy {
+    // What the kind means.
     ghost kind: { Kind Self };
 
     // What each pixel kind shows: it keeps the laws.
     ghost lawful: { LawfulKind kind };
 
+    // The channels of its pixels.
     fn channels() -> Channels
         ensures { λ r. ⌜ r ≡ kind .channels ⌝ };
 
@@ -22,9 +25,11 @@ pub trait Pixel {
     fn error() -> u32
         ensures { λ r. ⌜ r ≡ kind .error ⌝ };
 
+    // The colour that the pixel shows.
     fn show(&self) -> Colour
         ensures { λ r. ⌜ r ≡ kind .shown (now (self .entry)) ⌝ };
 
+    // The pixel made from a colour.
     fn make(colour: &Colour) -> Self
         ensures { λ r. ⌜ r ≡ kind .made (now (colour .entry)) ⌝ };
 }
@@ -73,7 +78,7 @@ fn narrow(count: u16) -> u8
     ((u32::from(count) + 128) / 257) as u8
 }
 
-// The count that a number of sixteen bits shows: itself.
+// The count that a number of sixteen bits shows: itself. A call, so that the proof sees that the field fits.
 fn count_of(number: u16) -> u16
     ensures { λ r. ⌜ r ≡ held number ⌝ }
 {
@@ -195,58 +200,5 @@ pub impl Pixel for Rgb16 as Rgb16Pixel {
             green: colour[1],
             blue: colour[2],
         }
-    }
-}
-
-#[cfg(test)]
-mod tests {
-    use super::*;
-    use std::fmt::Debug;
-    use std::test::*;
-
-    // The pixel shows the colour, and the pixel made from that colour is the same.
-    fn shows<P: Pixel + Copy + PartialEq<P> + Debug>(pixel: P, colour: Colour) -> Result<(), Fail> {
-        check_eq(pixel.show(), colour)?;
-        check_eq(P::make(&colour), pixel)
-    }
-
-    fn rgb8(red: u8, green: u8, blue: u8) -> Rgb8 {
-        Rgb8 { red, green, blue }
-    }
-
-    fn cmyk8(cyan: u8, magenta: u8, yellow: u8, black: u8) -> Cmyk8 {
-        Cmyk8 {
-            cyan,
-            magenta,
-            yellow,
-            black,
-        }
-    }
-
-    fn rgb16(red: u16, green: u16, blue: u16) -> Rgb16 {
-        Rgb16 { red, green, blue }
-    }
-
-    #[test]
-    fn a_byte_shows_257_counts_a_step() -> Result<(), Fail> {
-        shows(Gray8 { value: 0 }, [0, 0, 0, 0])?;
-        shows(Gray8 { value: 127 }, [32639, 0, 0, 0])?;
-        shows(Gray8 { value: 128 }, [32896, 0, 0, 0])?;
-        shows(Gray8 { value: 255 }, [65535, 0, 0, 0])?;
-        shows(rgb8(0, 127, 128), [0, 32639, 32896, 0])?;
-        shows(rgb8(255, 1, 0), [65535, 257, 0, 0])?;
-        shows(cmyk8(0, 127, 128, 255), [0, 32639, 32896, 65535])
-    }
-
-    #[test]
-    fn sixteen_bits_show_themselves() -> Result<(), Fail> {
-        shows(rgb16(0, 1, 65535), [0, 1, 65535, 0])?;
-        shows(rgb16(65535, 0, 32768), [65535, 0, 32768, 0])
-    }
-
-    #[test]
-    fn a_count_makes_the_nearest_byte() -> Result<(), Fail> {
-        check_eq(Cmyk8::make(&[0, 128, 129, 385]), cmyk8(0, 0, 1, 1))?;
-        check_eq(Rgb8::make(&[386, 65406, 65407, 65535]), rgb8(2, 254, 255))
     }
 }

@@ -18,8 +18,8 @@ fn refused<S: Stage, P: Pixel, Q: Pixel>(
 ) -> Option<Refusal>
     ensures { λ r. ⌜ r ≡ row-refusal (S·Stage .meaning (now (stage .entry))) (P·Pixel .kind .channels) (Q·Pixel .kind .channels) (length (now (entering .entry))) (length (now (leaving .entry))) ⌝ }
 {
-    if stage.ins().count() != P::channels().count()
-        || stage.outs().count() != Q::channels().count()
+    if stage.ins().number() != P::channels().number()
+        || stage.outs().number() != Q::channels().number()
     {
         Some(Refusal::PixelChannels)
     } else if entering.len() != leaving.len() {
@@ -45,7 +45,7 @@ fn converted<S: Stage, P: Pixel, Q: Pixel>(stage: &S, pixel: &P) -> Q
 }
 
 // Each leaving pixel from the entering pixel at its place.
-fn convert<S: Stage, P: Pixel, Q: Pixel + Copy>(stage: &S, entering: &[P], leaving: &mut [Q])
+fn convert<S: Stage, P: Pixel, Q: Pixel>(stage: &S, entering: &[P], leaving: &mut [Q])
     requires { ⌜ length (now entering) ≡ length (now leaving) ⌝ }
     ensures { λ _. ⌜ now (leaving .exit) ≡ row-pixels (S·Stage .meaning (now (stage .entry))) (P·Pixel .kind) (Q·Pixel .kind) (now (entering .entry)) ⌝ }
 {
@@ -55,7 +55,7 @@ fn convert<S: Stage, P: Pixel, Q: Pixel + Copy>(stage: &S, entering: &[P], leavi
 }
 
 // The row call, pinned: what it answers and what it leaves.
-fn send<S: Stage, P: Pixel, Q: Pixel + Copy>(
+fn send<S: Stage, P: Pixel, Q: Pixel>(
     stage: &S,
     entering: &[P],
     leaving: &mut [Q],
@@ -72,7 +72,7 @@ fn send<S: Stage, P: Pixel, Q: Pixel + Copy>(
 
 // Sends each entering pixel through the stage, and writes what comes out at its place of the leaving row. Returns
 // the error bound, in grains, that every count delivered keeps. A refused row leaves the leaving row as it stood.
-pub fn row<S: Stage, P: Pixel, Q: Pixel + Copy>(
+pub fn row<S: Stage, P: Pixel, Q: Pixel>(
     stage: &S,
     entering: &[P],
     leaving: &mut [Q],
@@ -82,56 +82,4 @@ pub fn row<S: Stage, P: Pixel, Q: Pixel + Copy>(
     ensures within { λ r. ⌜ Accepted r (λ bound. Delivers (S·Stage .meaning (now (stage .entry))) (P·Pixel .kind) (Q·Pixel .kind) (now (entering .entry)) (now (leaving .exit)) bound) ⌝ }
 {
     send(stage, entering, leaving)
-}
-
-#[cfg(test)]
-mod tests {
-    use super::*;
-    use crate::pixel::*;
-    use crate::refusal::*;
-    use meaning::Channels;
-    use stage::Curves;
-    use stage::CurvesStage;
-    use stage::NodeEntries;
-    use stage::NodeTable;
-    use std::test::*;
-
-    const ENTERING: [Gray8; 2] = [Gray8 { value: 0 }, Gray8 { value: 200 }];
-
-    const UNTOUCHED: Gray8 = Gray8 { value: 7 };
-
-    #[test]
-    fn a_negative_of_two_pixels() -> Result<(), Fail> {
-        let negative = Curves::new(Channels::One, 2, NodeTable(&[65535, 0])).ok_or("length")?;
-        let mut leaving = [UNTOUCHED; 2];
-        check_eq(row(&negative, &ENTERING, &mut leaving), Ok(8_421_376))?;
-        check_eq(leaving, [Gray8 { value: 255 }, Gray8 { value: 55 }])
-    }
-
-    #[test]
-    fn rows_of_two_lengths_are_refused() -> Result<(), Fail> {
-        let negative = Curves::new(Channels::One, 2, NodeTable(&[65535, 0])).ok_or("length")?;
-        let mut leaving = [UNTOUCHED; 3];
-        check_eq(
-            row(&negative, &ENTERING, &mut leaving),
-            Err(Refusal::RowLengths),
-        )?;
-        check_eq(leaving, [UNTOUCHED; 3])
-    }
-
-    #[test]
-    fn other_channels_are_refused_first() -> Result<(), Fail> {
-        let negative = Curves::new(Channels::One, 2, NodeTable(&[65535, 0])).ok_or("length")?;
-        let untouched = Rgb8 {
-            red: 1,
-            green: 2,
-            blue: 3,
-        };
-        let mut leaving = [untouched; 3];
-        check_eq(
-            row(&negative, &ENTERING, &mut leaving),
-            Err(Refusal::PixelChannels),
-        )?;
-        check_eq(leaving, [untouched; 3])
-    }
 }

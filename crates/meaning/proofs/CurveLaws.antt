@@ -20,8 +20,21 @@ use Rattle.meaning.proofs.Nearness.{Level, num-scale}
 use Rattle.meaning.proofs.Sampling.{sum-le, sum-add, sum-times, floor-gaps, samples-limit, samples-scale}
 use Rattle.meaning.proofs.ExactLaws.{half-lawful}
 
+gap-times : (a b n : ℕ) → gap (a * n) (b * n) ≡ gap a b * n
+gap-times a b n =
+    ⊎-elim
+    (λ (h : a < b).
+    let e : b ≡ a + (b - a) = omega arith in
+    let g : gap a b ≡ b - a = omega arith in
+    rw g (omega (arith, ap (λ k. k * n) e, add-mul a (b - a) n)))
+    (λ (h : b ≤ a).
+    let e : a ≡ b + (a - b) = omega arith in
+    let g : gap a b ≡ a - b = omega arith in
+    rw g (omega (arith, ap (λ k. k * n) e, add-mul b (a - b) n)))
+    (cases-lt a b)
+
 -- the arithmetic of a channel's steepness
-grown : (m j u v w g l d p q : ℕ) → u ≤ v + j * w → w ≡ m * g → g * q ≤ p * d → grains * m * j ≤ l * max-count → u * (grains * q) ≤ v * (grains * q) + l * p * (max-count * d)
+grown : (m j u v w g l d p q : ℕ) → u ≤ v + j * w → w ≡ g * m → g * q ≤ p * d → grains * m * j ≤ l * max-count → u * (grains * q) ≤ v * (grains * q) + l * p * (max-count * d)
 grown m j u v w g l d p q apart is near covers =
     let a = mul-le-mul-right (grains * q) apart in
     let b = ap (λ n. j * n * (grains * q)) is in
@@ -70,17 +83,8 @@ module _ (t : ℕ → ℕ) (m j : ℕ) (steps : (i : ℕ) → i < m → gap (t i
   pub channel-steep : (l d a b p q : ℕ) → 0 < d → a ≤ max-count * d → b ≤ max-count * d → grains * m * j ≤ l * max-count → a * q ≤ b * q + p * d → b * q ≤ a * q + p * d → samples t (max-count * d) (a * m) * (grains * q) ≤ samples t (max-count * d) (b * m) * (grains * q) + l * p * (max-count * d)
   channel-steep l d a b p q pos ha hb covers above below =
       let apart = samples-apart (max-count * d) (a * m) (b * m) (omega arith) (omega (arith, mul-le-mul-left m ha)) (omega (arith, mul-le-mul-left m hb)) in
-      let spread-gap : gap (a * m) (b * m) ≡ m * gap a b =
-      ⊎-elim
-      (λ (h : a < b). let e : b ≡ a + (b - a) = omega arith in let g : gap a b ≡ b - a = omega arith in rw g (let k = ap (λ n. n * m) e in omega (arith, k, add-mul a (b - a) m)))
-      (λ (h : b ≤ a). let e : a ≡ b + (a - b) = omega arith in let g : gap a b ≡ a - b = omega arith in rw g (let k = ap (λ n. n * m) e in omega (arith, k, add-mul b (a - b) m)))
-      (cases-lt a b) in
-      let near : gap a b * q ≤ p * d =
-      ⊎-elim
-      (λ (h : a < b). let g : gap a b ≡ b - a = omega arith in let e : b ≡ a + (b - a) = omega arith in rw g (let k = ap (λ n. n * q) e in omega (arith, k, add-mul a (b - a) q)))
-      (λ (h : b ≤ a). let g : gap a b ≡ a - b = omega arith in let e : a ≡ b + (a - b) = omega arith in rw g (let k = ap (λ n. n * q) e in omega (arith, k, add-mul b (a - b) q)))
-      (cases-lt a b) in
-      grown m j (samples t (max-count * d) (a * m)) (samples t (max-count * d) (b * m)) (gap (a * m) (b * m)) (gap a b) l d p q apart spread-gap near covers
+      let near : gap a b * q ≤ p * d = let e = gap-times a b q in omega arith in
+      grown m j (samples t (max-count * d) (a * m)) (samples t (max-count * d) (b * m)) (gap (a * m) (b * m)) (gap a b) l d p q apart (gap-times a b m) near covers
 
 -- ---- curves
 module _ (w : Channels) (n : ℕ) (counts : List ℕ) where

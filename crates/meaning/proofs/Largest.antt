@@ -1,4 +1,4 @@
--- The largest of finitely many values: a bound of each, and the least such bound. Assumes nothing.
+-- The largest of finitely many values. Assumes nothing.
 use mathlib.Core.Path.{_≡_, refl}
 use mathlib.Core.Logic.{⊎-elim}
 use Prim.Native.Nat.{ℕ, zero, suc, _+_, _≤_, _<_, max}
@@ -16,15 +16,6 @@ below-largest (suc n) f i h =
     (λ (l : i < n). let b = below-largest n f i l in omega arith)
     (λ (l : n ≤ i). let e : i ≡ n = omega arith in rw e (omega arith))
     (cases-lt i n)
-
--- the largest is at most what each value is at most
-pub largest-least : (n : ℕ) (f : ℕ → ℕ) (m : ℕ) → ((i : ℕ) → i < n → f i ≤ m) → largest-below n f ≤ m
-unfolding largest-below
-largest-least zero f m h = omega arith
-largest-least (suc n) f m h =
-    let below = largest-least n f m (λ i l. h i (omega arith)) in
-    let last = h n (omega arith) in
-    omega arith
 
 -- one value more
 pub largest-more : (n : ℕ) (f : ℕ → ℕ) → largest-below (n + 1) f ≡ max (largest-below n f) (f n)

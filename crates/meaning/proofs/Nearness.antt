@@ -34,9 +34,6 @@ over-right p q a d b e b′ e′ pos same h =
 
 -- ---- colours
 
-pub near-sym : (p q : ℕ) (x y : Exact) → Near p q x y → Near p q y x
-near-sym p q x y h = record { above = h .below; below = h .above }
-
 pub near-more : (p q p′ q′ : ℕ) (x y : Exact) → 0 < q → p * q′ ≤ p′ * q → Near p q x y → Near p′ q′ x y
 near-more p q p′ q′ x y pos more h = record {
   above = λ k. over-more p q p′ q′ (num x k) (x .den) (num y k) (y .den) pos more (h .above k);

@@ -1,7 +1,7 @@
 -- A row's signed sum in 64 bits: it fits, and it is what the row adds less what it takes. Assumes nothing.
 use mathlib.Core.Path.{_≡_, refl, sym, ap, _∙_}
 use mathlib.Core.List.{List}
-use Prim.Native.Nat.{ℕ, _+_, _*_, _^_, _≤_, _<_}
+use Prim.Native.Nat.{ℕ, _+_, _-_, _*_, _^_, _≤_, _<_, min}
 use native.Mathlib.Nat.{mul-le-mul}
 use native.Mathlib.Omega.{arith}
 use borrow.Author.Differences.{up, down, same-in, sum-is, product-is, neg-is, fits-in}
@@ -9,7 +9,7 @@ use lib.IntN.{ℤ, pos, negsuc, _+ℤ_, _-ℤ_, _*ℤ_, negℤ}
 use mir.Syntax.{w32, w64}
 use mir.Val.{SFits, toZ, ofZ}
 use Rattle.std.proofs.shelf.Signed.{toZ-ofZ}
-use Rattle.meaning.specs.Colours.{at}
+use Rattle.meaning.specs.Colours.{max-count, grains, at}
 use Rattle.meaning.specs.Matrices.{adds, takes, coefficient, weighted, Rows-are-signed-sums}
 
 -- far within 64 bits
@@ -88,6 +88,18 @@ row-signed es j c x y z is-x is-y is-z h i k =
     ap (λ s. toZ w64 (ofZ w64 s)) (three-back x y z h i k) ∙ toZ-ofZ w64 (x +ℤ y +ℤ z) (triple-fits x y z h i k)
     ∙ rw (is-x, is-y, is-z) (three-products (coefficient es j 0) (coefficient es j 1) (coefficient es j 2) (at c 0) (at c 1) (at c 2))
 
--- the signed sum of a row by its parts
+-- a difference of naturals, held to 0
+held-difference : (z : ℤ) (a b : ℕ) → up z + b ≡ a + down z → adds z ≡ a - b
+held-difference (pos n) a b e = omega arith
+held-difference (negsuc n) a b e = omega arith
+
+adds-difference : (a b : ℕ) → adds (pos a -ℤ pos b) ≡ a - b
+adds-difference a b = held-difference (pos a -ℤ pos b) a b (omega (arith, sum-is (pos a) (negℤ (pos b)), neg-is (pos b)))
+
 pub rows-signed : Rows-are-signed-sums
-rows-signed es j c = sym (three-products (coefficient es j 0) (coefficient es j 1) (coefficient es j 2) (at c 0) (at c 1) (at c 2))
+rows-signed es j x =
+    let c = x .nums in
+    let p = weighted adds es j c in
+    let n = weighted takes es j c in
+    let is = three-products (coefficient es j 0) (coefficient es j 1) (coefficient es j 2) (at c 0) (at c 1) (at c 2) in
+    ap (min (max-count * (grains * x .den))) (sym (ap adds is ∙ adds-difference p n))

@@ -26,5 +26,5 @@ worked-figures = record {
   bend-steepness = steepness-is;
   half-upward = refl;
   held-to-zero = refl;
-  carried-error = λ first e. rw (steepness-is, e);
+  carried-error = λ first second e l f. rw (e, l, f);
 }

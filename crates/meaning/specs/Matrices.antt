@@ -4,7 +4,7 @@ use mathlib.Core.Bool.{Bool, true, cond, _&&_}
 use mathlib.Core.List.{List, [], _∷_}
 use Prim.Native.Nat.{ℕ, suc, _+_, _-_, _*_, _%_, min}
 use lib.Dec.{eqb}
-use lib.IntN.{ℤ, pos, negsuc, natAbs, _+ℤ_, _-ℤ_, _*ℤ_}
+use lib.IntN.{ℤ, pos, negsuc, natAbs, _+ℤ_, _*ℤ_}
 use lib.ListN.{getD}
 use Rattle.meaning.specs.declared.Channels.the-variants.{Three}
 use Rattle.meaning.specs.Colours.{max-count, grains, half-count, at, Exact, spread}
@@ -36,9 +36,9 @@ row-value es x j = min (max-count * (grains * x .den)) (weighted adds es j (x .n
 abbrev pub signed-sum : List ℤ → ℕ → List ℕ → ℤ
 signed-sum es j c = coefficient es j 0 *ℤ pos (at c 0) +ℤ coefficient es j 1 *ℤ pos (at c 1) +ℤ coefficient es j 2 *ℤ pos (at c 2)
 
--- what a row adds less what it takes is that signed sum
+-- a row's value is its signed sum, 0 where that is negative, and at most 65,535 counts
 abbrev pub Rows-are-signed-sums : Type 0
-Rows-are-signed-sums = (es : List ℤ) (j : ℕ) (c : List ℕ) → pos (weighted adds es j c) -ℤ pos (weighted takes es j c) ≡ signed-sum es j c
+Rows-are-signed-sums = (es : List ℤ) (j : ℕ) (x : Exact) → row-value es x j ≡ min (max-count * (grains * x .den)) (adds (signed-sum es j (x .nums)))
 
 -- the exact value: each row over 65,536 d
 abbrev pub matrix-exact : List ℤ → Exact → Exact
@@ -48,7 +48,7 @@ matrix-exact es x = record { nums = spread 3 (row-value es x); den = grains * x 
 abbrev pub row-sum : List ℤ → ℕ → ℕ
 row-sum es j = natAbs (coefficient es j 0) + natAbs (coefficient es j 1) + natAbs (coefficient es j 2)
 
--- the largest row sum
+-- the largest row sum, at most the steepness that claims nothing
 abbrev pub matrix-steepness : List ℤ → ℕ
 matrix-steepness es = min unclaimed (largest-below 3 (row-sum es))
 

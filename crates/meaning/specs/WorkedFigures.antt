@@ -33,10 +33,10 @@ pub record Worked-figures : Type 0 where
   -- half of 10,001 less 2,000 is 3,000.5, rounded upward; a negative sum is held to 0
   pub half-upward : half-less-one .answer (colour 10001 2000 0 0) ≡ colour 3001 0 0 0
   pub held-to-zero : negated .answer (colour 5 0 0 0) ≡ colour 0 0 0 0
-  -- an error of half a count before the curve
-  pub carried-error : (first : Meaning) → first .error ≡ 32768 → joined first bent-curve .error ≡ 97304
+  -- an error of half a count before a stage as steep and as exact as the curve
+  pub carried-error : (first second : Meaning) → first .error ≡ 32768 → second .steepness ≡ 129072 → second .error ≡ 32768 → joined first second .error ≡ 97304
 
--- the figures as numbers, in that order; the last with the curve before itself
+-- the figures as numbers, in that order; the last of the curve after itself
 abbrev pub figures : List ℕ
 figures =
     at (bent-curve .answer (colour 32767 0 0 0)) 0

@@ -33,8 +33,8 @@ pub enum Channels {
 }
 
 impl Channels {
-    // The channels as a number: 1, 3 or 4.
-    pub fn count(self) -> usize
+    // 1, 3 or 4.
+    pub fn number(self) -> usize
         ensures { λ r. ⌜ r ≡ number self ⌝ }
     {
         match self {
@@ -65,7 +65,7 @@ fn matrices_keep_the_laws()
     ensures { λ _. ⌜ Matrices-keep-the-laws ⌝ }
 {}
 
-// Names the theorem: the value of a matrix row is its signed sum.
+// Names the theorem: the value of a matrix row is its signed sum, held to the range.
 fn rows_are_signed_sums()
     ensures { λ _. ⌜ Rows-are-signed-sums ⌝ }
 {}
@@ -75,12 +75,15 @@ fn figures_hold()
     ensures { λ _. ⌜ Worked-figures ⌝ }
 {}
 
-// The steepness of two stages joined. Joined so, stages keep the laws.
+// The steepness of two stages joined. Joined so, stages keep the laws; and equal exact colours have equal
+// results in every stage that keeps them.
 pub fn joined_steepness(first: u32, second: u32) -> u32
     ensures value { λ r. ⌜ r ≡ joined-steepness first second ⌝ }
     ensures law { λ _. ⌜ Joining-keeps-the-laws ⌝ }
+    ensures equal { λ _. ⌜ Equal-in-equal-out ⌝ }
 {
     joining_keeps_the_laws();
+    equal_in_equal_out();
     if first == UNCLAIMED || second == UNCLAIMED {
         return UNCLAIMED;
     }
@@ -89,12 +92,10 @@ pub fn joined_steepness(first: u32, second: u32) -> u32
 }
 
 // The error of two stages joined: the second's steepness carries the first's error on, and the second's
-// own error is added. Equal exact colours stay equal through any stage that keeps the laws.
+// own error is added.
 pub fn joined_error(steepness: u32, first: u32, second: u32) -> u32
-    ensures value { λ r. ⌜ r ≡ joined-error steepness first second ⌝ }
-    ensures law { λ _. ⌜ Equal-in-equal-out ⌝ }
+    ensures { λ r. ⌜ r ≡ joined-error steepness first second ⌝ }
 {
-    equal_in_equal_out();
     if steepness == UNCLAIMED {
         return FULL_RANGE;
     }
@@ -114,7 +115,7 @@ pub fn curve_steepness(length: u16, step: u16) -> u32
 }
 
 // The error of a matrix: none where all its coefficients are whole, else half a count. With it, matrices
-// keep the laws; and what is held to the range in each row is the row's signed sum.
+// keep the laws; and each row's value is its signed sum, held to the range.
 pub fn matrix_error(whole: bool) -> u32
     ensures value { λ r. ⌜ r ≡ cond whole 0 half-count ⌝ }
     ensures law { λ _. ⌜ Matrices-keep-the-laws ⌝ }
@@ -125,9 +126,9 @@ pub fn matrix_error(whole: bool) -> u32
     if whole { 0 } else { HALF_COUNT }
 }
 
-// Grains as 100,000ths of a count, rounded up: a bound that is shown in counts with five decimals is never
-// shown too small.
-pub fn counts_rounded_up(grains: u32) -> u64
+// Grains as 100,000ths of a count, rounded up: a bound that is quoted in counts with five decimals is never
+// quoted too small.
+pub fn hundred_thousandths(grains: u32) -> u64
     ensures { λ r. ⌜ r ≡ ceiling (grains * 100000) 65536 ⌝ }
 {
     (grains as u64 * 100_000 + 65_535) / 65_536

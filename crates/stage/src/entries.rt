@@ -1,4 +1,4 @@
-// Entries: the counts of a table, from three sources behind one interface.
+// The entries of tables, read in one way wherever they are stored.
 ghost use mathlib.Core.List.{List, map};
 ghost use mathlib.Core.Path.{_≡_};
 ghost use Prim.Native.Nat.{ℕ, _+_, _*_};

@@ -8,12 +8,15 @@ use meaning::Channels;
 // A colour: four channels, each a count from 0 to 65,535.
 pub type Colour = [u16; CHANNELS];
 
+// A stage. Asking it and running it never fail and change nothing.
 pub trait Stage {
+    // What the stage means.
     ghost meaning: { Self → Meaning };
 
     // What each stage shows: its meaning keeps the laws.
     ghost lawful: { (s : Self) → Lawful (meaning s) };
 
+    // The channels that it takes, and those that it gives.
     fn ins(&self) -> Channels
         ensures { λ r. ⌜ r ≡ meaning (now (self .entry)) .ins ⌝ };
 
@@ -28,6 +31,7 @@ pub trait Stage {
     fn error(&self) -> u32
         ensures { λ r. ⌜ r ≡ meaning (now (self .entry)) .error ⌝ };
 
+    // The colour that it gives for a colour.
     fn answer(&self, colour: &Colour) -> Colour
         ensures { λ r. ⌜ r ≡ meaning (now (self .entry)) .answer (now (colour .entry)) ⌝ };
 }
