@@ -1,4 +1,6 @@
 // The kiosk tool: runs the jobs that its arguments name, and prints the rows with their bounds.
+#![tactic(auto)]
+
 mod job;
 mod run;
 mod samples;

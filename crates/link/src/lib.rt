@@ -1,4 +1,6 @@
 // Pixels through a stage: the pixel kinds, and the call that sends a row of pixels through a stage.
+#![tactic(auto)]
+
 pub mod pixel;
 pub mod refusal;
 pub mod rows;

@@ -1,5 +1,7 @@
 // What stages mean. The definitions and laws stand in specs/ and their proofs in proofs/; the functions
 // here work out the figures that are quoted for a stage, and their contracts name the theorems.
+#![tactic(auto)]
+
 ghost use Rattle.std.specs.Prelude.{◌≡◌, ◌*◌, if◌then◌else◌};
 ghost use Rattle.meaning.specs.Colours.{ceiling, half_count, number};
 ghost use Rattle.meaning.specs.Curves.{CurvesKeepTheLaws};

@@ -1,5 +1,7 @@
 // Stages: what a chain is made of. A stage turns a colour into a colour, and tells how far its answers
 // may lie from the exact map that it stands for.
+#![tactic(auto)]
+
 pub mod curves;
 pub mod entries;
 pub mod joined;

@@ -1,8 +1,8 @@
 use Rattle.meaning.proofs.RowSums.{product_fits, product_small, product_value}
 use Rattle.stage.proofs.matrix.product.Goals as goal
 
-pub overflow-mul-result : goal.overflow-mul-result
-overflow-mul-result c =
+pub overflow_mul-result : goal.overflow_mul-result
+overflow_mul-result c =
     product_fits c.args.e c.from.result c.from-2.result c.args.a c.ranges.e c.ranges.a.fits c.from.ensures c.from-2.ensures
 
 pub returns : goal.returns

@@ -6,4 +6,4 @@ pub loop-channel-init : goal.loop-channel-init
 loop-channel-init g c = sym (largest_none _)
 
 pub loop-channel-preserved : goal.loop-channel-preserved
-loop-channel-preserved g c = largest_next c.loop-channel.channel _ _ _ _ c.max-largest.ensures c.loop-channel.invariant c.table-step.ensures
+loop-channel-preserved g c = largest_next c.loop-channel.channel _ _ _ _ c.max-largest.ensures c.loop-channel.invariant c.table_step.ensures

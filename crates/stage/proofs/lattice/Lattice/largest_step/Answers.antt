@@ -6,4 +6,4 @@ pub loop-output-init : goal.loop-output-init
 loop-output-init g c = sym (largest_none _)
 
 pub loop-output-preserved : goal.loop-output-preserved
-loop-output-preserved g c = largest_next c.loop-output.output _ _ _ _ c.max-largest.ensures c.loop-output.invariant c.output-step.ensures
+loop-output-preserved g c = largest_next c.loop-output.output _ _ _ _ c.max-largest.ensures c.loop-output.invariant c.output_step.ensures

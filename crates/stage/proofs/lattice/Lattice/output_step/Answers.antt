@@ -15,8 +15,8 @@ loop-k-preserved g c =
     let self = c.args.self.now in
     let k = c.loop-k.k in
     let t = output_of_node g.E.Entries.counts self c.args.output in
-    let along : c.channel-step.result ≡ largest_along self.grid k (number self.ins - (k + 1)) t =
-    rw (c.nodes.ensures.value, c.nodes-in-loop-k.ensures.value, c.number-channels.ensures) at c.channel-step.ensures ∙ along_blocks self.grid k (number self.ins - (k + 1)) t in
+    let along : c.channel_step.result ≡ largest_along self.grid k (number self.ins - (k + 1)) t =
+    rw (c.nodes.ensures.value, c.nodes-in-loop-k.ensures.value, c.number-channels.ensures) at c.channel_step.ensures ∙ along_blocks self.grid k (number self.ins - (k + 1)) t in
     let f : ℕ → ℕ = λ n. largest_along self.grid n (number self.ins - (n + 1)) t in
     let more = ap (λ n. sum_below n f) (add-one k) ∙ sum_more k f in
-    (ap (λ n. n + c.channel-step.result) c.loop-k.invariant.0 ∙ ap (λ n. sum_below k f + n) along ∙ sym more, omega (arith, c.loop-k.invariant.1, c.channel-step.type-inv))
+    (ap (λ n. n + c.channel_step.result) c.loop-k.invariant.0 ∙ ap (λ n. sum_below k f + n) along ∙ sym more, omega (arith, c.loop-k.invariant.1, c.channel_step.type_inv))

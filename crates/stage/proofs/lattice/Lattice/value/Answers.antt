@@ -13,4 +13,4 @@ returns-in-Four g c =
     let from : ℕ → ℕ = λ place. sum_below 65535 (λ s. entry (g.E.Entries.counts c.args.self.now.table) (place + reach_all cell.legs s)) in
     let pairs : (65535 - first.rest) * c.tetrahedron-low.result + first.rest * c.tetrahedron-high.result ≡ sum_below 65535 (λ u. from (c.args.output + reach first u)) =
     rw (c.tetrahedron-low.ensures.value, c.tetrahedron-high.ensures.value) (sym (leg_sum from first c.args.output c.requires.1.0.rest)) in
-    rw c.in-Four.is (c.nearest-between.ensures ∙ ap (λ n. rounded n (65535 * 65535)) pairs)
+    rw c.in-Four.is (c.nearest_between.ensures ∙ ap (λ n. rounded n (65535 * 65535)) pairs)

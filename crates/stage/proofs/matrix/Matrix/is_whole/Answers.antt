@@ -6,15 +6,15 @@ use Rattle.meaning.specs.Matrices.{all_whole}
 use Rattle.meaning.proofs.MatrixLaws.{whole_more}
 use Rattle.stage.proofs.matrix.Matrix.is_whole.Goals as goal
 
-pub returns-then-unsigned-abs-ne0 : goal.returns-then-unsigned-abs-ne0
-returns-then-unsigned-abs-ne0 c =
+pub returns-then-unsigned_abs-ne0 : goal.returns-then-unsigned_abs-ne0
+returns-then-unsigned_abs-ne0 c =
     let es = c.args.self.now.coefficients in
     let i = c.loop-e.e-index in
     let e = get_or es i (pos 0) in
     let inside : i < length es = search rules in
     let fits : SFits w32 e = search rules in
-    let abs = rw (to_z-of_z w32 e fits) at c.unsigned-abs.ensures.value in
-    let test = ne_eqb (nat_abs e % 65536) 0 (rw abs at c.if-unsigned-abs-ne0.true) in
+    let abs = rw (to_z-of_z w32 e fits) at c.unsigned_abs.ensures.value in
+    let test = ne_eqb (nat_abs e % 65536) 0 (rw abs at c.if-unsigned_abs-ne0.true) in
     sym (sym c.loop-e.invariant ∙ whole_more es i inside ∙ ap (λ t. t && all_whole (drop (i + 1) es)) test)
 
 pub loop-e-preserved : goal.loop-e-preserved
@@ -24,8 +24,8 @@ loop-e-preserved c =
     let e = get_or es i (pos 0) in
     let inside : i < length es = search rules in
     let fits : SFits w32 e = search rules in
-    let abs = rw (to_z-of_z w32 e fits) at c.unsigned-abs.ensures.value in
-    let test = eq-eqb (nat_abs e % 65536) 0 (rw abs at c.if-unsigned-abs-ne0.false) in
+    let abs = rw (to_z-of_z w32 e fits) at c.unsigned_abs.ensures.value in
+    let test = eq-eqb (nat_abs e % 65536) 0 (rw abs at c.if-unsigned_abs-ne0.false) in
     sym (whole_more es i inside ∙ ap (λ t. t && all_whole (drop (i + 1) es)) test) ∙ c.loop-e.invariant
 
 pub returns : goal.returns

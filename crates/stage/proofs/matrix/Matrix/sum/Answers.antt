@@ -3,11 +3,11 @@ use Rattle.std.proofs.lemmas.Int.{to_z-of_z}
 use Rattle.meaning.proofs.RowSums.{two_fit, three_fit, row_signed}
 use Rattle.stage.proofs.matrix.Matrix.sum.Goals as goal
 
-pub overflow-add-result : goal.overflow-add-result
-overflow-add-result c = two_fit c.product.result c.product-2.result c.product.ensures.small c.product-2.ensures.small
+pub overflow_add-result : goal.overflow_add-result
+overflow_add-result c = two_fit c.product.result c.product-2.result c.product.ensures.small c.product-2.ensures.small
 
-pub overflow-add-result-2 : goal.overflow-add-result-2
-overflow-add-result-2 c =
+pub overflow_add-result-2 : goal.overflow_add-result-2
+overflow_add-result-2 c =
     three_fit c.product.result c.product-2.result c.product-3.result c.product.ensures.small c.product-2.ensures.small c.product-3.ensures.small
 
 -- a product x of what was read, e, and a: e is the coefficient k
@@ -17,7 +17,7 @@ of_coefficient x e k a fits is h = rw (to_z-of_z w32 e fits, is) at h
 pub returns : goal.returns
 returns c =
     row_signed c.args.self.now.coefficients c.args.j c.args.colour.now c.product.result c.product-2.result c.product-3.result
-    (of_coefficient c.product.result c.at.result _ _ (record { sfits = c.at.type-inv }) c.at.ensures c.product.ensures.value)
-    (of_coefficient c.product-2.result c.at-2.result _ _ (record { sfits = c.at-2.type-inv }) c.at-2.ensures c.product-2.ensures.value)
-    (of_coefficient c.product-3.result c.at-3.result _ _ (record { sfits = c.at-3.type-inv }) c.at-3.ensures c.product-3.ensures.value)
+    (of_coefficient c.product.result c.at.result _ _ (record { sfits = c.at.type_inv }) c.at.ensures c.product.ensures.value)
+    (of_coefficient c.product-2.result c.at-2.result _ _ (record { sfits = c.at-2.type_inv }) c.at-2.ensures c.product-2.ensures.value)
+    (of_coefficient c.product-3.result c.at-3.result _ _ (record { sfits = c.at-3.type_inv }) c.at-3.ensures c.product-3.ensures.value)
     c.product.ensures.small c.product-2.ensures.small c.product-3.ensures.small
