@@ -58,11 +58,13 @@ pub(crate) enum Reason {
     UnknownWord,
     SecondMatrix,
     SecondCurves,
+    SecondLastCurves,
     SecondLattice,
     LateMatrix,
     NotNineCoefficients,
     NotAChannelNumber,
     NotALength,
+    NotALatticeChannelNumber,
     NotAGrid,
     Misfit,
     EntryNumber { wanted: usize, found: usize },
@@ -91,22 +93,29 @@ impl fmt::Display for Reason {
                 "a line begins with matrix, curves, lattice, row or #",
             ),
             Reason::SecondMatrix => f.write_str("a job has at most one matrix"),
-            Reason::SecondCurves => f.write_str(
-                "a job has at most one set of curves before its lattice and one behind it",
+            Reason::SecondCurves => f.write_str("a job has at most one set of curves"),
+            Reason::SecondLastCurves => f.write_str(
+                "a job has at most one set of curves behind its lattice",
             ),
             Reason::SecondLattice => f.write_str("a job has at most one lattice"),
-            Reason::LateMatrix => f.write_str("the matrix stands before curves and lattice"),
+            Reason::LateMatrix => f.write_str("the matrix stands before the lattice"),
             Reason::NotNineCoefficients => f.write_str(
                 "a matrix is nine whole numbers from -2147483648 to 2147483647",
             ),
-            Reason::NotAChannelNumber => f.write_str("curves and lattices have 1, 3 or 4 channels"),
+            Reason::NotAChannelNumber => f.write_str("curves have 1, 3 or 4 channels"),
             Reason::NotALength => f.write_str("a table has 2 to 4096 entries"),
+            Reason::NotALatticeChannelNumber => f.write_str(
+                "a lattice takes and gives 1, 3 or 4 channels",
+            ),
             Reason::NotAGrid => f.write_str("a lattice has 2 to 255 grid points"),
             Reason::Misfit => f.write_str(
-                "a stage takes as many channels as the one before it gives",
+                "a lattice and the stages beside it have the same channels where they meet",
             ),
             Reason::EntryNumber { wanted, found } => {
-                write!(f, "this stage has {wanted} entries, and {found} are given")
+                write!(
+                    f,
+                    "this lattice has {wanted} entries, and {found} are given"
+                )
             }
             Reason::NotACount => f.write_str(
                 "entries and samples are whole numbers from 0 to 65535",
@@ -168,7 +177,7 @@ fn read_matrix(mut words: SplitWhitespace<'_>) -> Result<[i32; 9], Reason> {
     }
 }
 
-// A stage has all its entries, and no others.
+// A lattice has all its entries, and no others.
 fn check_number(wanted: usize, found: usize) -> Result<(), Reason> {
     if wanted == found {
         Ok(())
@@ -187,7 +196,6 @@ fn read_tables(heap: Global, mut words: SplitWhitespace<'_>) -> Result<Tables, R
         _ => return Err(Reason::NotALength),
     };
     let entries = read_counts(heap, words)?;
-    check_number(channels.number() * length as usize, entries.len())?;
     Ok(Tables {
         channels,
         length,
@@ -205,8 +213,9 @@ fn node_entries(ins: Channels, outs: Channels, grid: u8) -> usize {
 }
 
 fn read_nodes(heap: Global, mut words: SplitWhitespace<'_>) -> Result<Nodes, Reason> {
-    let ins = read_channels(words.next())?;
-    let outs = read_channels(words.next())?;
+    let (Ok(ins), Ok(outs)) = (read_channels(words.next()), read_channels(words.next())) else {
+        return Err(Reason::NotALatticeChannelNumber);
+    };
     let Some(word) = words.next() else {
         return Err(Reason::NotAGrid);
     };
@@ -249,7 +258,7 @@ fn given_channels(job: &Job) -> Option<Channels> {
     None
 }
 
-// A stage takes the channels that the one before it gives.
+// A lattice, and curves behind it, take the channels that the stage before them gives.
 fn check_fit(job: &Job, ins: Channels) -> Result<(), Reason> {
     match given_channels(job) {
         Some(given) if given != ins => Err(Reason::Misfit),
@@ -257,33 +266,38 @@ fn check_fit(job: &Job, ins: Channels) -> Result<(), Reason> {
     }
 }
 
-// The matrix is the first stage.
+// The matrix runs before curves and lattice, and stands before the lattice.
 fn take_matrix(job: &mut Job, words: SplitWhitespace<'_>) -> Result<(), Reason> {
     if job.matrix.is_some() {
         return Err(Reason::SecondMatrix);
     }
-    if job.curves.is_some() || job.lattice.is_some() {
+    if job.lattice.is_some() {
         return Err(Reason::LateMatrix);
     }
     job.matrix = Some(read_matrix(words)?);
     Ok(())
 }
 
-// Curves stand before the lattice or behind it.
-fn take_curves(heap: Global, job: &mut Job, words: SplitWhitespace<'_>) -> Result<(), Reason> {
+// Curves behind the lattice.
+fn take_last_curves(heap: Global, job: &mut Job, words: SplitWhitespace<'_>) -> Result<(), Reason> {
+    if job.last_curves.is_some() {
+        return Err(Reason::SecondLastCurves);
+    }
     let tables = read_tables(heap, words)?;
     check_fit(job, tables.channels)?;
-    if job.lattice.is_none() {
-        if job.curves.is_some() {
-            return Err(Reason::SecondCurves);
-        }
-        job.curves = Some(tables);
-    } else {
-        if job.last_curves.is_some() {
-            return Err(Reason::SecondCurves);
-        }
-        job.last_curves = Some(tables);
+    job.last_curves = Some(tables);
+    Ok(())
+}
+
+// Curves stand before the lattice or behind it.
+fn take_curves(heap: Global, job: &mut Job, words: SplitWhitespace<'_>) -> Result<(), Reason> {
+    if job.lattice.is_some() {
+        return take_last_curves(heap, job, words);
     }
+    if job.curves.is_some() {
+        return Err(Reason::SecondCurves);
+    }
+    job.curves = Some(read_tables(heap, words)?);
     Ok(())
 }
 

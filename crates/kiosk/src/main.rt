@@ -25,12 +25,12 @@ fn run_job(rt: &HostRuntime, path: &str) -> anyhow::Result<()> {
     }
 }
 
-// One argument: a job's path, or the word selftest.
+// One argument: a job's path, or one of the words selftest and selftest-lattices.
 fn run_argument(rt: &HostRuntime, argument: &str) -> anyhow::Result<()> {
-    if argument == "selftest" {
-        selftest::run(rt)
-    } else {
-        run_job(rt, argument)
+    match argument {
+        "selftest" => selftest::run(rt),
+        "selftest-lattices" => selftest::run_lattices(rt),
+        path => run_job(rt, path),
     }
 }
 

@@ -95,23 +95,34 @@ fn compare(
     Ok(all)
 }
 
+// Fails where some figures disagree.
+fn conclude(all: bool) -> anyhow::Result<()> {
+    if all {
+        Ok(())
+    } else {
+        Err(anyhow!("a stage does not give its worked figure"))
+    }
+}
+
+// The figures of curves, matrices and joining.
 pub(crate) fn run(rt: &HostRuntime) -> anyhow::Result<()> {
     println!(rt; "selftest")?;
     let Some(measured) = measured_figures() else {
         return Err(anyhow!("the curve was refused"));
     };
+    conclude(compare(rt, &NAMES, &measured, &worked_figures())?)
+}
+
+// The figures of lattices.
+pub(crate) fn run_lattices(rt: &HostRuntime) -> anyhow::Result<()> {
+    println!(rt; "selftest-lattices")?;
     let Some(cube) = measured_cube() else {
         return Err(anyhow!("the lattice was refused"));
     };
     let Some(fading) = measured_fading_cube() else {
         return Err(anyhow!("the lattice of four channels was refused"));
     };
-    let first = compare(rt, &NAMES, &measured, &worked_figures())?;
-    let second = compare(rt, &CUBE_NAMES, &cube, &worked_cube_figures())?;
-    let third = compare(rt, &FADING_NAMES, &fading, &worked_fading_figures())?;
-    if first && second && third {
-        Ok(())
-    } else {
-        Err(anyhow!("a stage does not give its worked figure"))
-    }
+    let first = compare(rt, &CUBE_NAMES, &cube, &worked_cube_figures())?;
+    let second = compare(rt, &FADING_NAMES, &fading, &worked_fading_figures())?;
+    conclude(first && second)
 }

@@ -6,8 +6,7 @@ use Rattle.meaning.specs.Colours.{max_count, grains, number, num, Exact, Valid, 
 use Rattle.meaning.specs.Distances.{gap, Same}
 use Rattle.meaning.specs.Sums.{largest_below, samples}
 use Rattle.meaning.specs.Stages.{unclaimed}
-use Rattle.meaning.specs.Curves.{table_entry, curves_exact, largest_curve_step, CurvesKeepTheLaws}
-use Rattle.meaning.specs.Tables.{steepness_of_table}
+use Rattle.meaning.specs.Curves.{table_entry, curves_exact, largest_curve_step, CurvesKeepTheLaws, steepness_of_curve}
 use Rattle.meaning.proofs.Channelwise.{number_limit, length_spread, spread_within, spread_beyond, each_channel}
 use Rattle.meaning.proofs.Largest.{below_largest}
 use Rattle.meaning.proofs.Nearness.{Level, num_scale}
@@ -72,11 +71,11 @@ module _ (w : Channels) (n : ℕ) (counts : List ℕ) where
       omega (arith, ap (λ a. a * (max_count * x.den)) left, ap (λ a. a * (max_count * (m * x.den))) right))
       (cases_lt k (number w))
 
-  curves_steep : steepness_of_table n (largest_curve_step w n counts) < unclaimed → (p q : ℕ) → 0 < q → (x y : Exact) → Valid x → Valid y → Level p q x y → (k : ℕ) → num (curves_exact w n counts x) k * (grains * q) ≤ num (curves_exact w n counts y) k * (grains * q) + steepness_of_table n (largest_curve_step w n counts) * p * (max_count * x.den)
+  curves_steep : steepness_of_curve n (largest_curve_step w n counts) < unclaimed → (p q : ℕ) → 0 < q → (x y : Exact) → Valid x → Valid y → Level p q x y → (k : ℕ) → num (curves_exact w n counts x) k * (grains * q) ≤ num (curves_exact w n counts y) k * (grains * q) + steepness_of_curve n (largest_curve_step w n counts) * p * (max_count * x.den)
   curves_steep claimed p q pos x y vx vy h k =
       let sampled : Exact → ℕ → ℕ = λ z c. samples (table_entry n counts c) (max_count * z.den) (num z c * (n - 1)) in
       let j = largest_curve_step w n counts in
-      let l = steepness_of_table n j in
+      let l = steepness_of_curve n j in
       let covers = steepness_covers n j claimed in
       ⊎_elim
       (λ (c : k < number w).
@@ -94,7 +93,7 @@ module _ (w : Channels) (n : ℕ) (counts : List ℕ) where
 
 pub curves_lawful : CurvesKeepTheLaws
 curves_lawful w n counts =
-    half_lawful w w (curves_exact w n counts) (steepness_of_table n (largest_curve_step w n counts)) (record {
+    half_lawful w w (curves_exact w n counts) (steepness_of_curve n (largest_curve_step w n counts)) (record {
       limit = omega arith;
       stays = curves_stay w n counts;
       zero_beyond = λ x v k h. spread_beyond (number w) (λ c. samples (table_entry n counts c) (max_count * x.den) (num x c * (n - 1))) k h;

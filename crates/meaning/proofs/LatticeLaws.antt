@@ -11,7 +11,7 @@ use Rattle.meaning.specs.Colours.{max_count, grains, number, num, Exact, Valid, 
 use Rattle.meaning.specs.Distances.{gap, Same}
 use Rattle.meaning.specs.Sums.{sum_below, largest_below, samples}
 use Rattle.meaning.specs.Stages.{unclaimed}
-use Rattle.meaning.specs.Tables.{steepness_of_table}
+use Rattle.meaning.specs.Curves.{steepness_of_curve}
 use Rattle.meaning.specs.Lattices.{numbered, node_samples, pair_samples, lattice_sum, lattice_terms, largest_along, total_step, output, node, lattice_exact, lattice_step, LatticesKeepTheLaws}
 use Rattle.meaning.proofs.Channelwise.{number_limit, length_spread, spread_within, spread_beyond, each_channel}
 use Rattle.meaning.proofs.Nearness.{Level, num_scale}
@@ -245,7 +245,7 @@ module _ (i o : Channels) (g : ℕ) (counts : List ℕ) where
 
   -- its steepness
   abbrev steepness : ℕ
-  steepness = steepness_of_table g (lattice_step i o g counts)
+  steepness = steepness_of_curve g (lattice_step i o g counts)
 
   -- output j, where there are grid points
   output_steep : 0 < g → steepness < unclaimed → (p q : ℕ) (x y : Exact) → Valid x → Valid y → Level p q x y → (j : ℕ) → j < number o →

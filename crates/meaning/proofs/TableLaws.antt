@@ -4,7 +4,7 @@ use Rattle.std.proofs.lemmas.Bool.{cases_lt}
 use Rattle.meaning.specs.Colours.{max_count, grains, ceiling}
 use Rattle.meaning.specs.Distances.{gap}
 use Rattle.meaning.specs.Stages.{unclaimed}
-use Rattle.meaning.specs.Tables.{steepness_of_table}
+use Rattle.meaning.specs.Curves.{steepness_of_curve}
 use Rattle.meaning.proofs.Rounding.{ceiling_covers}
 
 -- a difference, n times larger
@@ -32,10 +32,10 @@ pub steps_grown : (w m j l d p q : ℕ) → q * w ≤ m * (p * d) * j → grains
 steps_grown w m j l d p q near covers = omega (arith, mul-le-mul_left grains near, mul-le-mul_right (p * d) covers)
 
 -- a claimed steepness is no smaller than its fraction
-pub steepness_covers : (n j : ℕ) → steepness_of_table n j < unclaimed → grains * (n - 1) * j ≤ steepness_of_table n j * max_count
+pub steepness_covers : (n j : ℕ) → steepness_of_curve n j < unclaimed → grains * (n - 1) * j ≤ steepness_of_curve n j * max_count
 steepness_covers n j claimed =
     let c = ceiling_covers (grains * (n - 1) * j) max_count (omega arith) in
-    let e : steepness_of_table n j ≡ ceiling (grains * (n - 1) * j) max_count = omega arith in
+    let e : steepness_of_curve n j ≡ ceiling (grains * (n - 1) * j) max_count = omega arith in
     rw e c
 
 -- ---- one table, whose first m neighbouring pairs differ by at most j

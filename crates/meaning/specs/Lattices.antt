@@ -6,7 +6,7 @@ use Rattle.meaning.specs.Colours.{max_count, half_count, number, num, Exact, spr
 use Rattle.meaning.specs.Distances.{gap}
 use Rattle.meaning.specs.Sums.{sum_below, largest_below}
 use Rattle.meaning.specs.Stages.{Meaning, Lawful, rounding}
-use Rattle.meaning.specs.Tables.{entry, steepness_of_table}
+use Rattle.meaning.specs.Curves.{entry, steepness_of_curve}
 
 -- the number of the node with the indices xs, behind indices that have the number n: (n g + x) g + …, so that the
 -- last index moves on from node to node, and the first most seldom
@@ -66,7 +66,7 @@ lattice_step i o g counts = largest_below (number o) (λ j. total_step (number i
 
 -- a lattice from i to o channels with g grid points a channel
 abbrev pub lattice : Channels → Channels → ℕ → List ℕ → Meaning
-lattice i o g counts = rounding i o (lattice_exact i o g counts) (steepness_of_table g (lattice_step i o g counts)) half_count
+lattice i o g counts = rounding i o (lattice_exact i o g counts) (steepness_of_curve g (lattice_step i o g counts)) half_count
 
 -- lattices keep the laws, whatever their nodes hold
 abbrev pub LatticesKeepTheLaws : Type 0

@@ -2,7 +2,6 @@ pub mod Colours
 pub mod Distances
 pub mod Stages
 pub mod Sums
-pub mod Tables
 pub mod Curves
 pub mod Lattices
 pub mod Matrices

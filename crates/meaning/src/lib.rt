@@ -4,11 +4,10 @@
 
 ghost use Rattle.std.specs.Prelude.{◌≡◌, ◌*◌, if◌then◌else◌};
 ghost use Rattle.meaning.specs.Colours.{ceiling, half_count, number};
-ghost use Rattle.meaning.specs.Curves.{CurvesKeepTheLaws};
+ghost use Rattle.meaning.specs.Curves.{CurvesKeepTheLaws, steepness_of_curve};
 ghost use Rattle.meaning.specs.Lattices.{LatticesKeepTheLaws};
 ghost use Rattle.meaning.specs.Matrices.{MatricesKeepTheLaws, RowsAreSignedSums};
 ghost use Rattle.meaning.specs.Stages.{EqualInEqualOut, JoiningKeepsTheLaws, error_of_joined, steepness_of_joined};
-ghost use Rattle.meaning.specs.Tables.{steepness_of_table};
 ghost use Rattle.meaning.specs.WorkedFigures.{WorkedFigures, cube_figures, fading_figures, figures};
 
 // The channels of a colour.
@@ -110,17 +109,26 @@ pub fn joined_error(steepness: u32, first: u32, second: u32) -> u32
     (carried + second as u64).min(FULL_RANGE as u64) as u32
 }
 
-// The steepness of tables with `points` points a channel, where one step in every channel at once moves the value by
+// The steepness of tables with `length` points a channel, where one step in every channel at once moves the value by
 // at most `step` counts. With it, curves and lattices keep the laws.
-pub fn table_steepness(points: u16, step: u32) -> u32
-    ensures value { result ≡ steepness_of_table points step }
+pub fn table_steepness(length: u16, step: u32) -> u32
+    ensures value { result ≡ steepness_of_curve length step }
     ensures curves { CurvesKeepTheLaws }
     ensures lattices { LatticesKeepTheLaws }
 {
     curves_keep_the_laws();
     lattices_keep_the_laws();
-    let rise = 65_536 * points.saturating_sub(1) as u64 * step as u64;
+    let rise = 65_536 * length.saturating_sub(1) as u64 * step as u64;
     ((rise + 65_534) / 65_535).min(UNCLAIMED as u64) as u32
+}
+
+// The steepness of curves with `length` entries a table, whose neighbours differ by at most `step`
+// counts. With it, curves keep the laws.
+pub fn curve_steepness(length: u16, step: u16) -> u32
+    ensures value { result ≡ steepness_of_curve length step }
+    ensures law { CurvesKeepTheLaws }
+{
+    table_steepness(length, step as u32)
 }
 
 // The error of a matrix: none where all its coefficients are whole, else half a count. With it, matrices

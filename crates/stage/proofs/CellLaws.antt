@@ -5,7 +5,7 @@ use Rattle.meaning.specs.declared.Channels.{Channels}
 use Rattle.meaning.specs.declared.Channels.TheVariants.{One, Three, Four}
 use Rattle.meaning.specs.Colours.{number, at, nearest, spread}
 use Rattle.meaning.specs.Lattices.{numbered, node, node_samples, pair_samples, lattice_sum, lattice_terms, lattice}
-use Rattle.meaning.specs.Tables.{entry}
+use Rattle.meaning.specs.Curves.{entry}
 use Rattle.meaning.proofs.Sampling.{sum_same}
 use Rattle.stage.specs.declared.legs.Leg.{Leg}
 use Rattle.stage.specs.Lattices.{cell, cell_sum, cell_exact}

@@ -8,8 +8,8 @@ ghost use Rattle.stage.specs.Curves.{curves_over, curve_entry, curve_step};
 
 use crate::entries::Entries;
 use crate::traits::{Colour, Stage};
-use crate::weighing::{blend, nearest};
-use meaning::{CHANNELS, Channels, HALF_COUNT, table_steepness};
+use crate::weighing::blend;
+use meaning::{CHANNELS, Channels, HALF_COUNT, curve_steepness};
 
 // Curves over 1, 3 or 4 channels. The tables of `length` entries lie one after the other.
 #[derive(Clone, Copy)]
@@ -17,6 +17,14 @@ pub struct Curves<E> {
     channels: Channels,
     length: u16,
     table: E,
+}
+
+// A sum over 65,535 as the nearest count, halves upward.
+pub(crate) fn nearest(sum: u32) -> u16
+    requires { sum ≤ 65535 * 65535 }
+    ensures { result ≡ rounded sum 65535 }
+{
+    ((sum + 32_767) / 65_535) as u16
 }
 
 impl<E: Entries> Curves<E> {
@@ -103,7 +111,7 @@ impl<E: Entries> Stage for Curves<E> {
     }
 
     fn steepness(&self) -> u32 {
-        table_steepness(self.length, self.largest_step() as u32)
+        curve_steepness(self.length, self.largest_step())
     }
 
     fn error(&self) -> u32 {

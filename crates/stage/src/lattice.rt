@@ -4,14 +4,15 @@ ghost use Rattle.meaning.proofs.LatticeLaws.{lattices_lawful};
 ghost use Rattle.meaning.specs.Colours.{number, nearest, rounded};
 ghost use Rattle.meaning.specs.Lattices.{lattice, lattice_terms};
 ghost use Rattle.meaning.specs.Sums.{sum_below};
-ghost use Rattle.meaning.specs.Tables.{entry};
+ghost use Rattle.meaning.specs.Curves.{entry};
 ghost use Rattle.stage.specs.Lattices.{lattice_over, strides, cell, cell_exact, cell_sum};
 ghost use Rattle.stage.specs.Legs.{reach_all, Small, Sorted};
 
+use crate::curves::nearest;
 use crate::entries::Entries;
 use crate::legs::{IDLE, Leg, Legs};
 use crate::traits::{Colour, Stage};
-use crate::weighing::{corners, nearest, nearest_between};
+use crate::weighing::{corners, nearest_between};
 use meaning::{CHANNELS, Channels, HALF_COUNT, table_steepness};
 
 // A lattice of `grid` points in each in-channel. From one node of the table to the next the last in-channel moves on

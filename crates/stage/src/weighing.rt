@@ -51,14 +51,6 @@ pub(crate) fn corners(corner: [u16; 4], most: u32, middle: u32, least: u32) -> u
         + weighed(least, last)
 }
 
-// A sum over 65,535 samples as the nearest count, halves upward.
-pub(crate) fn nearest(sum: u32) -> u16
-    requires { sum ≤ 65535 * 65535 }
-    ensures { result ≡ rounded sum 65535 }
-{
-    ((sum + 32_767) / 65_535) as u16
-}
-
 // A sum over 65,535 · 65,535 pairs of samples as the nearest count, halves upward.
 fn nearest_of_pairs(sum: u64) -> u16
     requires { sum ≤ 65535 * (65535 * 65535) }

@@ -1,6 +1,6 @@
 use Rattle.std.proofs.Common.{◌≡◌}
 use Rattle.meaning.specs.Colours.{nearest}
-use Rattle.meaning.specs.Tables.{entry}
+use Rattle.meaning.specs.Curves.{entry}
 use Rattle.stage.specs.Lattices.{cell_exact}
 use Rattle.stage.proofs.lattice.Lattice.outputs.Given as goal
 

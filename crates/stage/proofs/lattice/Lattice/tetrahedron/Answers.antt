@@ -1,5 +1,5 @@
 use Rattle.std.proofs.Common.{sym, ◌∙◌}
-use Rattle.meaning.specs.Tables.{entry}
+use Rattle.meaning.specs.Curves.{entry}
 use Rattle.stage.proofs.LegLaws.{corners_sum}
 use Rattle.stage.proofs.lattice.Lattice.tetrahedron.Goals as goal
 

@@ -1,7 +1,7 @@
 use Rattle.std.proofs.Common.{◌≡◌, ℕ, ◌+◌, ◌-◌, ◌*◌, sym, ap, ◌∙◌}
 use Rattle.meaning.specs.Colours.{rounded}
 use Rattle.meaning.specs.Sums.{sum_below}
-use Rattle.meaning.specs.Tables.{entry}
+use Rattle.meaning.specs.Curves.{entry}
 use Rattle.stage.specs.Legs.{reach, reach_all}
 use Rattle.stage.proofs.LegLaws.{leg_sum}
 use Rattle.stage.proofs.lattice.Lattice.value.Goals as goal
