@@ -8,6 +8,7 @@ mod selftest;
 
 use anyhow::anyhow;
 use job::Job;
+use std::process::ExitCode;
 use std::{env, fs};
 
 // Reads and runs one job. A job with a wrong line is not run.
@@ -56,10 +57,12 @@ fn run_arguments(rt: &HostRuntime) -> anyhow::Result<()> {
     Ok(())
 }
 
-fn main(rt: HostRuntime) -> anyhow::Result<()> {
-    let told = run_arguments(&rt);
-    if let Err(error) = &told {
-        eprintln!(rt; "kiosk: {error}")?;
+fn main(rt: HostRuntime) -> ExitCode {
+    match run_arguments(&rt) {
+        Ok(()) => ExitCode::SUCCESS,
+        Err(error) => {
+            let _ = eprintln!(rt; "kiosk: {error}");
+            ExitCode::FAILURE
+        }
     }
-    told
 }

@@ -17,7 +17,7 @@ use Rattle.meaning.proofs.ExactLaws.{half_lawful}
 -- ---- one table, whose first m neighbouring pairs differ by at most j
 module _ (t : ℕ → ℕ) (m j : ℕ) (steps : (i : ℕ) → i < m → gap (t i) (t (i + 1)) ≤ j) where
   -- the samples at two positions differ by at most j for each step between them
-  samples_apart : (D p q : ℕ) → 0 < D → p ≤ m * D → q ≤ m * D → samples t D p ≤ samples t D q + j * gap p q
+  pub samples_apart : (D p q : ℕ) → 0 < D → p ≤ m * D → q ≤ m * D → samples t D p ≤ samples t D q + j * gap p q
   unfolding samples
   samples_apart D p q pos hp hq =
       let each =
@@ -28,7 +28,7 @@ module _ (t : ℕ → ℕ) (m j : ℕ) (steps : (i : ℕ) → i < m → gap (t i
       omega arith
 
   -- one channel: values p/q counts apart, over the denominator d, have samples l·p/q grains apart
-  channel_steep : (l d a b p q : ℕ) → 0 < d → a ≤ max_count * d → b ≤ max_count * d → grains * m * j ≤ l * max_count → a * q ≤ b * q + p * d → b * q ≤ a * q + p * d → samples t (max_count * d) (a * m) * (grains * q) ≤ samples t (max_count * d) (b * m) * (grains * q) + l * p * (max_count * d)
+  pub channel_steep : (l d a b p q : ℕ) → 0 < d → a ≤ max_count * d → b ≤ max_count * d → grains * m * j ≤ l * max_count → a * q ≤ b * q + p * d → b * q ≤ a * q + p * d → samples t (max_count * d) (a * m) * (grains * q) ≤ samples t (max_count * d) (b * m) * (grains * q) + l * p * (max_count * d)
   channel_steep l d a b p q pos ha hb covers above below =
       let apart = samples_apart (max_count * d) (a * m) (b * m) (omega arith) (omega (arith, mul-le-mul_left m ha)) (omega (arith, mul-le-mul_left m hb)) in
       let grown = steps_grown (j * gap (a * m) (b * m)) m j l d p q (steps_near a b m j d p q above below) covers in

@@ -1,7 +1,7 @@
 -- Distances of exact colours: weakening, the triangle, equal colours, and colours over one denominator. Assumes nothing.
 use Rattle.std.proofs.Common.{◌≡◌, ℕ, ◌+◌, ◌*◌, ◌<◌, ◌≤◌, List, sym, ap, ◌∙◌, mul-le-mul_right, mul_assoc, mul_comm, add-mul, mul-le-mul_left, mul-pos, le_of_mul-le-mul_right, mul_left_comm, arith}
 use Rattle.std.proofs.lemmas.List.{length-map}
-use Rattle.meaning.specs.Colours.{max_count, grains, full_range, at, num, Colour, Exact, Valid, whole, scale}
+use Rattle.meaning.specs.Colours.{max_count, grains, full_range, num, Colour, Exact, Valid, whole, scale}
 use Rattle.meaning.specs.Distances.{Over, Near, Same}
 use Rattle.meaning.proofs.Channelwise.{at_map}
 
