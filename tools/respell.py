@@ -3,8 +3,8 @@
 facts in camel case. Run once, at the top, right after the toolchain's port.py; a second run changes nothing.
 
 Left alone: names of functions in src/, the names that Rattle makes (goals, and what stands behind `c.` or `goal.` in a
-proof file), and the library's names. A definition that would then have the name of a function gets another one; the
-table OTHER lists those."""
+proof file), and the library's names. A definition that would then have the name of a function gets another one: the
+table OTHER lists those, and curve_step() has one more."""
 import os
 import re
 import subprocess

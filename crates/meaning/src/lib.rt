@@ -109,26 +109,28 @@ pub fn joined_error(steepness: u32, first: u32, second: u32) -> u32
     (carried + second as u64).min(FULL_RANGE as u64) as u32
 }
 
-// The steepness of tables with `length` points a channel, where one step in every channel at once moves the value by
-// at most `step` counts. With it, curves and lattices keep the laws.
-pub fn table_steepness(length: u16, step: u32) -> u32
-    ensures value { result ≡ steepness_of_curve length step }
-    ensures curves { CurvesKeepTheLaws }
-    ensures lattices { LatticesKeepTheLaws }
-{
-    curves_keep_the_laws();
-    lattices_keep_the_laws();
-    let rise = 65_536 * length.saturating_sub(1) as u64 * step as u64;
-    ((rise + 65_534) / 65_535).min(UNCLAIMED as u64) as u32
-}
-
 // The steepness of curves with `length` entries a table, whose neighbours differ by at most `step`
 // counts. With it, curves keep the laws.
 pub fn curve_steepness(length: u16, step: u16) -> u32
     ensures value { result ≡ steepness_of_curve length step }
     ensures law { CurvesKeepTheLaws }
 {
-    table_steepness(length, step as u32)
+    curves_keep_the_laws();
+    let rise = 65_536 * length.saturating_sub(1) as u64 * step as u64;
+    ((rise + 65_534) / 65_535).min(UNCLAIMED as u64) as u32
+}
+
+// The same of tables with `points` points a channel, where one step in every channel at once moves the value by at most
+// `step` counts, of which there may be more than a count holds. With it, curves and lattices keep the laws.
+pub fn table_steepness(points: u16, step: u32) -> u32
+    ensures value { result ≡ steepness_of_curve points step }
+    ensures curves { CurvesKeepTheLaws }
+    ensures lattices { LatticesKeepTheLaws }
+{
+    curves_keep_the_laws();
+    lattices_keep_the_laws();
+    let total = 65_536 * points.saturating_sub(1) as u64 * step as u64;
+    ((total + 65_534) / 65_535).min(UNCLAIMED as u64) as u32
 }
 
 // The error of a matrix: none where all its coefficients are whole, else half a count. With it, matrices
