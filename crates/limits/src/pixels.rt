@@ -1,10 +1,17 @@
 // Each pixel kind at the ends and in the middle of its samples.
 use link::{Cmyk8, Gray8, Pixel, Rgb8, Rgb16};
 use stage::Colour;
+use std::test::Fail;
 
-// Whether the pixel shows the colour, and the pixel made from that colour is the same.
-fn shows<P: Pixel + PartialEq>(pixel: P, colour: Colour) -> bool {
-    pixel.show() == colour && P::make(&colour) == pixel
+// The pixel shows the colour, and the pixel made from that colour is the same.
+fn shows<P: Pixel + PartialEq>(pixel: P, colour: Colour) -> Result<(), Fail> {
+    if pixel.show() != colour {
+        return Err("the pixel shows another colour".into());
+    }
+    if P::make(&colour) != pixel {
+        return Err("the colour makes another pixel".into());
+    }
+    Ok(())
 }
 
 fn rgb8(red: u8, green: u8, blue: u8) -> Rgb8 {
@@ -25,21 +32,21 @@ fn rgb16(red: u16, green: u16, blue: u16) -> Rgb16 {
 }
 
 #[test]
-fn a_byte_shows_257_counts_a_step(rt: HostRuntime) {
-    assert!(rt; shows(Gray8 { value: 0 }, [0, 0, 0, 0]));
-    assert!(rt; shows(Gray8 { value: 127 }, [32639, 0, 0, 0]));
-    assert!(rt; shows(Gray8 { value: 128 }, [32896, 0, 0, 0]));
-    assert!(rt; shows(Gray8 { value: 255 }, [65535, 0, 0, 0]));
-    assert!(rt; shows(rgb8(0, 127, 128), [0, 32639, 32896, 0]));
-    assert!(rt; shows(rgb8(255, 1, 0), [65535, 257, 0, 0]));
-    assert!(rt; shows(cmyk8(0, 127, 128, 255), [0, 32639, 32896, 65535]));
+fn a_byte_shows_257_counts_a_step() -> Result<(), Fail> {
+    shows(Gray8 { value: 0 }, [0, 0, 0, 0])?;
+    shows(Gray8 { value: 127 }, [32639, 0, 0, 0])?;
+    shows(Gray8 { value: 128 }, [32896, 0, 0, 0])?;
+    shows(Gray8 { value: 255 }, [65535, 0, 0, 0])?;
+    shows(rgb8(0, 127, 128), [0, 32639, 32896, 0])?;
+    shows(rgb8(255, 1, 0), [65535, 257, 0, 0])?;
+    shows(cmyk8(0, 127, 128, 255), [0, 32639, 32896, 65535])
 }
 
 #[test]
-fn sixteen_bits_show_themselves(rt: HostRuntime) {
-    assert!(rt; shows(rgb16(0, 1, 65535), [0, 1, 65535, 0]));
-    assert!(rt; shows(rgb16(127, 128, 255), [127, 128, 255, 0]));
-    assert!(rt; shows(rgb16(65535, 0, 32768), [65535, 0, 32768, 0]));
+fn sixteen_bits_show_themselves() -> Result<(), Fail> {
+    shows(rgb16(0, 1, 65535), [0, 1, 65535, 0])?;
+    shows(rgb16(127, 128, 255), [127, 128, 255, 0])?;
+    shows(rgb16(65535, 0, 32768), [65535, 0, 32768, 0])
 }
 
 #[test]
