@@ -9,7 +9,7 @@ import os
 import re
 import subprocess
 
-# old name: new name, where plain snake or camel case would fall together with a function of src/ or a module
+# old name: new name, where snake case would fall together with a function of src/, and two names that follow these
 OTHER = {
     "curve-steepness": "steepness_of_curve",
     "table-steepness": "steepness_of_table",

@@ -1,4 +1,4 @@
-// Counts weighed by the samples that read them, and sums of such weights rounded once to counts.
+// Counts weighed by the samples that read them, and sums over pairs of samples rounded once to counts.
 ghost use Rattle.std.specs.Prelude.{◌≡◌, ◌+◌, ◌-◌, ◌*◌, ◌≤◌};
 ghost use Rattle.meaning.specs.Colours.{at, rounded};
 
@@ -11,7 +11,7 @@ fn weighed(weight: u32, count: u16) -> u32
     weight * count as u32
 }
 
-// A sum over 65,535 samples, taken in `weight` of 65,535 pairs.
+// A sum over 65,535 samples, taken for `weight` of the 65,535 samples of the first channel.
 fn weighed_pairs(weight: u32, sum: u32) -> u64
     requires { (weight ≤ 65535) × (sum ≤ 65535 * 65535) }
     ensures value { result ≡ weight * sum }
