@@ -5,9 +5,10 @@
 //     lattice INS OUTS GRID ENTRY ..    nodes of OUTS entries, the last in-channel moving on first
 //     row ENTERS LEAVES SAMPLE ..       pixel kinds gray8, rgb8, cmyk8 or rgb16, and the entering samples
 use meaning::Channels;
-use std::alloc::{AllocFailed, Global};
-use std::fmt;
-use std::str::SplitWhitespace;
+use std::alloc::{AllocError, Global};
+use std::str::{FromStr, SplitWhitespace};
+use std::{array, fmt};
+use thiserror::Error;
 
 // The pixel kinds by name.
 #[derive(Clone, Copy)]
@@ -16,6 +17,31 @@ pub(crate) enum KindName {
     Rgb8,
     Cmyk8,
     Rgb16,
+}
+
+impl FromStr for KindName {
+    type Err = Reason;
+
+    fn from_str(word: &str) -> Result<KindName, Reason> {
+        match word {
+            "gray8" => Ok(KindName::Gray8),
+            "rgb8" => Ok(KindName::Rgb8),
+            "cmyk8" => Ok(KindName::Cmyk8),
+            "rgb16" => Ok(KindName::Rgb16),
+            _ => Err(Reason::NotAPixelKind),
+        }
+    }
+}
+
+impl fmt::Display for KindName {
+    fn fmt<W: fmt::Write>(&self, f: &mut fmt::Formatter<W>) -> fmt::Result {
+        f.write_str(match self {
+            KindName::Gray8 => "gray8",
+            KindName::Rgb8 => "rgb8",
+            KindName::Cmyk8 => "cmyk8",
+            KindName::Rgb16 => "rgb16",
+        })
+    }
 }
 
 // The tables of curves: `length` entries for each channel.
@@ -53,279 +79,150 @@ pub(crate) struct Job {
 }
 
 // What is wrong with a line.
-#[derive(Clone, Copy)]
+#[derive(Debug, Drop, Error)]
 pub(crate) enum Reason {
+    #[error("a line begins with matrix, curves, lattice, row or #")]
     UnknownWord,
+    #[error("a job has at most one matrix")]
     SecondMatrix,
+    #[error("a job has at most one set of curves")]
     SecondCurves,
+    #[error("a job has at most one set of curves behind its lattice")]
     SecondLastCurves,
+    #[error("a job has at most one lattice")]
     SecondLattice,
+    #[error("the matrix stands before the lattice")]
     LateMatrix,
+    #[error("a matrix is nine whole numbers from -2147483648 to 2147483647")]
     NotNineCoefficients,
+    #[error("curves have 1, 3 or 4 channels")]
     NotAChannelNumber,
+    #[error("a table has 2 to 4096 entries")]
     NotALength,
+    #[error("a lattice takes and gives 1, 3 or 4 channels")]
     NotALatticeChannelNumber,
+    #[error("a lattice has 2 to 255 grid points")]
     NotAGrid,
+    #[error("a lattice and the stages beside it have the same channels where they meet")]
     Misfit,
+    #[error("this lattice has {wanted} entries, and {found} are given")]
     EntryNumber { wanted: usize, found: usize },
+    #[error("entries and samples are whole numbers from 0 to 65535")]
     NotACount,
+    #[error("a pixel kind is gray8, rgb8, cmyk8 or rgb16")]
     NotAPixelKind,
+    #[error("a row has whole pixels, with samples up to 255 at 8 bits")]
     NotASample,
-    Memory,
+    #[error("there is not enough memory")]
+    Memory(#[from(alloc)] AllocError),
 }
 
-#[derive(Clone, Copy)]
+// The first line of a job that is wrong.
+#[derive(Debug, Drop, Error)]
+#[error("line {line}: {reason}")]
 pub(crate) struct BadLine {
-    pub line: usize,
-    pub reason: Reason,
+    line: usize,
+    reason: Reason,
 }
 
-impl<T: Drop> From<AllocFailed<T>> for Reason {
-    fn from(_e: AllocFailed<T>) -> Reason {
-        Reason::Memory
+// The rest of a line's words, and the heap for the numbers that they stand for.
+#[derive(Drop)]
+struct Words<'a> {
+    heap: Global,
+    rest: SplitWhitespace<'a>,
+}
+
+impl Words<'_> {
+    // The value that the next word stands for, if there is a word and it stands for one.
+    fn value<T: FromStr>(&mut self) -> Option<T>
+    where
+        T::Err: Drop,
+    {
+        self.rest.next()?.parse().ok()
     }
-}
 
-impl fmt::Display for Reason {
-    fn fmt<W: fmt::Write>(&self, f: &mut fmt::Formatter<W>) -> fmt::Result {
-        match self {
-            Reason::UnknownWord => f.write_str(
-                "a line begins with matrix, curves, lattice, row or #",
-            ),
-            Reason::SecondMatrix => f.write_str("a job has at most one matrix"),
-            Reason::SecondCurves => f.write_str("a job has at most one set of curves"),
-            Reason::SecondLastCurves => f.write_str(
-                "a job has at most one set of curves behind its lattice",
-            ),
-            Reason::SecondLattice => f.write_str("a job has at most one lattice"),
-            Reason::LateMatrix => f.write_str("the matrix stands before the lattice"),
-            Reason::NotNineCoefficients => f.write_str(
-                "a matrix is nine whole numbers from -2147483648 to 2147483647",
-            ),
-            Reason::NotAChannelNumber => f.write_str("curves have 1, 3 or 4 channels"),
-            Reason::NotALength => f.write_str("a table has 2 to 4096 entries"),
-            Reason::NotALatticeChannelNumber => f.write_str(
-                "a lattice takes and gives 1, 3 or 4 channels",
-            ),
-            Reason::NotAGrid => f.write_str("a lattice has 2 to 255 grid points"),
-            Reason::Misfit => f.write_str(
-                "a lattice and the stages beside it have the same channels where they meet",
-            ),
-            Reason::EntryNumber { wanted, found } => {
-                write!(
-                    f,
-                    "this lattice has {wanted} entries, and {found} are given"
-                )
-            }
-            Reason::NotACount => f.write_str(
-                "entries and samples are whole numbers from 0 to 65535",
-            ),
-            Reason::NotAPixelKind => f.write_str("a pixel kind is gray8, rgb8, cmyk8 or rgb16"),
-            Reason::NotASample => f.write_str(
-                "a row has whole pixels, with samples up to 255 at 8 bits",
-            ),
-            Reason::Memory => f.write_str("there is not enough memory"),
+    // A match on the words, since a parsed number would let 03 and +3 pass too.
+    fn channels(&mut self) -> Option<Channels> {
+        match self.rest.next()? {
+            "1" => Some(Channels::One),
+            "3" => Some(Channels::Three),
+            "4" => Some(Channels::Four),
+            _ => None,
         }
     }
-}
 
-fn read_channels(word: Option<&str>) -> Result<Channels, Reason> {
-    match word {
-        Some("1") => Ok(Channels::One),
-        Some("3") => Ok(Channels::Three),
-        Some("4") => Ok(Channels::Four),
-        _ => Err(Reason::NotAChannelNumber),
+    fn kind(&mut self) -> Result<KindName, Reason> {
+        self.rest.next().ok_or(Reason::NotAPixelKind)?.parse()
     }
-}
 
-fn read_kind(word: Option<&str>) -> Result<KindName, Reason> {
-    match word {
-        Some("gray8") => Ok(KindName::Gray8),
-        Some("rgb8") => Ok(KindName::Rgb8),
-        Some("cmyk8") => Ok(KindName::Cmyk8),
-        Some("rgb16") => Ok(KindName::Rgb16),
-        _ => Err(Reason::NotAPixelKind),
+    // The counts that all the words stand for.
+    fn counts(self) -> Result<Vec<u16>, Reason> {
+        self.rest
+            .map(|word| word.parse::<u16>().map_err(|_| Reason::NotACount))
+            .try_collect(self.heap)
     }
-}
 
-// The counts that the words left stand for.
-fn read_counts(heap: Global, words: SplitWhitespace<'_>) -> Result<Vec<u16>, Reason> {
-    let mut counts = Vec::new(heap);
-    for word in words {
-        match word.parse::<u16>() {
-            Ok(count) => counts.push(count)?,
-            Err(_) => return Err(Reason::NotACount),
+    fn matrix(mut self) -> Result<[i32; 9], Reason> {
+        let coefficients = array::try_from_fn(|_| self.value().ok_or(Reason::NotNineCoefficients))?;
+        match self.rest.next() {
+            None => Ok(coefficients),
+            Some(_) => Err(Reason::NotNineCoefficients),
         }
     }
-    Ok(counts)
-}
 
-fn read_matrix(mut words: SplitWhitespace<'_>) -> Result<[i32; 9], Reason> {
-    let mut coefficients = [0; 9];
-    for coefficient in coefficients.iter_mut() {
-        let Some(word) = words.next() else {
-            return Err(Reason::NotNineCoefficients);
-        };
-        let Ok(number) = word.parse::<i32>() else {
-            return Err(Reason::NotNineCoefficients);
-        };
-        *coefficient = number;
+    fn tables(mut self) -> Result<Tables, Reason> {
+        let channels = self.channels().ok_or(Reason::NotAChannelNumber)?;
+        let length = self
+            .value::<u16>()
+            .filter(|length| (2..=4096).contains(length))
+            .ok_or(Reason::NotALength)?;
+        let entries = self.counts()?;
+        Ok(Tables {
+            channels,
+            length,
+            entries,
+        })
     }
-    match words.next() {
-        None => Ok(coefficients),
-        Some(_) => Err(Reason::NotNineCoefficients),
-    }
-}
 
-// A lattice has all its entries, and no others.
-fn check_number(wanted: usize, found: usize) -> Result<(), Reason> {
-    if wanted == found {
-        Ok(())
-    } else {
-        Err(Reason::EntryNumber { wanted, found })
+    // A lattice has the entries of all its nodes, and no others.
+    fn nodes(mut self) -> Result<Nodes, Reason> {
+        let ins = self.channels().ok_or(Reason::NotALatticeChannelNumber)?;
+        let outs = self.channels().ok_or(Reason::NotALatticeChannelNumber)?;
+        let grid = self
+            .value::<u8>()
+            .filter(|&grid| grid >= 2)
+            .ok_or(Reason::NotAGrid)?;
+        let entries = self.counts()?;
+        let wanted = node_entries(ins, outs, grid);
+        let found = entries.len();
+        if wanted != found {
+            return Err(Reason::EntryNumber { wanted, found });
+        }
+        Ok(Nodes {
+            ins,
+            outs,
+            grid,
+            entries,
+        })
     }
-}
 
-fn read_tables(heap: Global, mut words: SplitWhitespace<'_>) -> Result<Tables, Reason> {
-    let channels = read_channels(words.next())?;
-    let Some(word) = words.next() else {
-        return Err(Reason::NotALength);
-    };
-    let length = match word.parse::<u16>() {
-        Ok(length) if length >= 2 && length <= 4096 => length,
-        _ => return Err(Reason::NotALength),
-    };
-    let entries = read_counts(heap, words)?;
-    Ok(Tables {
-        channels,
-        length,
-        entries,
-    })
+    fn row(mut self) -> Result<RowTask, Reason> {
+        let enters = self.kind()?;
+        let leaves = self.kind()?;
+        let samples = self.counts()?;
+        Ok(RowTask {
+            enters,
+            leaves,
+            samples,
+        })
+    }
 }
 
 // The entries of all nodes: `outs` for each combination of grid points.
 fn node_entries(ins: Channels, outs: Channels, grid: u8) -> usize {
-    let mut entries = outs.number();
-    for _ in 0..ins.number() {
-        entries = entries.saturating_mul(grid as usize);
-    }
-    entries
-}
-
-fn read_nodes(heap: Global, mut words: SplitWhitespace<'_>) -> Result<Nodes, Reason> {
-    let (Ok(ins), Ok(outs)) = (read_channels(words.next()), read_channels(words.next())) else {
-        return Err(Reason::NotALatticeChannelNumber);
-    };
-    let Some(word) = words.next() else {
-        return Err(Reason::NotAGrid);
-    };
-    let grid = match word.parse::<u8>() {
-        Ok(grid) if grid >= 2 => grid,
-        _ => return Err(Reason::NotAGrid),
-    };
-    let entries = read_counts(heap, words)?;
-    check_number(node_entries(ins, outs, grid), entries.len())?;
-    Ok(Nodes {
-        ins,
-        outs,
-        grid,
-        entries,
+    (0..ins.number()).fold(outs.number(), |entries, _| {
+        entries.saturating_mul(usize::from(grid))
     })
-}
-
-fn read_row(heap: Global, mut words: SplitWhitespace<'_>) -> Result<RowTask, Reason> {
-    let enters = read_kind(words.next())?;
-    let leaves = read_kind(words.next())?;
-    let samples = read_counts(heap, words)?;
-    Ok(RowTask {
-        enters,
-        leaves,
-        samples,
-    })
-}
-
-// The channels that the stages read so far give.
-fn given_channels(job: &Job) -> Option<Channels> {
-    if let Some(nodes) = &job.lattice {
-        return Some(nodes.outs);
-    }
-    if let Some(tables) = &job.curves {
-        return Some(tables.channels);
-    }
-    if job.matrix.is_some() {
-        return Some(Channels::Three);
-    }
-    None
-}
-
-// A lattice, and curves behind it, take the channels that the stage before them gives.
-fn check_fit(job: &Job, ins: Channels) -> Result<(), Reason> {
-    match given_channels(job) {
-        Some(given) if given != ins => Err(Reason::Misfit),
-        _ => Ok(()),
-    }
-}
-
-// The matrix runs before curves and lattice, and stands before the lattice.
-fn take_matrix(job: &mut Job, words: SplitWhitespace<'_>) -> Result<(), Reason> {
-    if job.matrix.is_some() {
-        return Err(Reason::SecondMatrix);
-    }
-    if job.lattice.is_some() {
-        return Err(Reason::LateMatrix);
-    }
-    job.matrix = Some(read_matrix(words)?);
-    Ok(())
-}
-
-// Curves behind the lattice.
-fn take_last_curves(heap: Global, job: &mut Job, words: SplitWhitespace<'_>) -> Result<(), Reason> {
-    if job.last_curves.is_some() {
-        return Err(Reason::SecondLastCurves);
-    }
-    let tables = read_tables(heap, words)?;
-    check_fit(job, tables.channels)?;
-    job.last_curves = Some(tables);
-    Ok(())
-}
-
-// Curves stand before the lattice or behind it.
-fn take_curves(heap: Global, job: &mut Job, words: SplitWhitespace<'_>) -> Result<(), Reason> {
-    if job.lattice.is_some() {
-        return take_last_curves(heap, job, words);
-    }
-    if job.curves.is_some() {
-        return Err(Reason::SecondCurves);
-    }
-    job.curves = Some(read_tables(heap, words)?);
-    Ok(())
-}
-
-fn take_lattice(heap: Global, job: &mut Job, words: SplitWhitespace<'_>) -> Result<(), Reason> {
-    if job.lattice.is_some() {
-        return Err(Reason::SecondLattice);
-    }
-    let nodes = read_nodes(heap, words)?;
-    check_fit(job, nodes.ins)?;
-    job.lattice = Some(nodes);
-    Ok(())
-}
-
-// One line more of a job.
-fn take_line(heap: Global, job: &mut Job, line: &str) -> Result<(), Reason> {
-    let mut words = line.split_whitespace();
-    match words.next() {
-        None => Ok(()),
-        Some("matrix") => take_matrix(job, words),
-        Some("curves") => take_curves(heap, job, words),
-        Some("lattice") => take_lattice(heap, job, words),
-        Some("row") => {
-            job.rows.push(read_row(heap, words)?)?;
-            Ok(())
-        }
-        Some(word) if word.starts_with('#') => Ok(()),
-        Some(_) => Err(Reason::UnknownWord),
-    }
 }
 
 impl Job {
@@ -338,14 +235,95 @@ impl Job {
             last_curves: None,
             rows: Vec::new(heap),
         };
-        for (index, line) in text.lines().enumerate() {
-            if let Err(reason) = take_line(heap, &mut job, line) {
-                return Err(BadLine {
-                    line: index.saturating_add(1),
-                    reason,
-                });
-            }
+        for (line, words) in (1..usize::MAX).zip(text.lines()) {
+            job.take_line(heap, words)
+                .map_err(|reason| BadLine { line, reason })?;
         }
         Ok(job)
     }
+
+    // One line more of a job.
+    fn take_line(&mut self, heap: Global, line: &str) -> Result<(), Reason> {
+        let mut words = Words {
+            heap,
+            rest: line.split_whitespace(),
+        };
+        match words.rest.next() {
+            None => Ok(()),
+            Some("matrix") => self.take_matrix(words),
+            Some("curves") => self.take_curves(words),
+            Some("lattice") => self.take_lattice(words),
+            Some("row") => {
+                self.rows.push(words.row()?)?;
+                Ok(())
+            }
+            Some(word) if word.starts_with('#') => Ok(()),
+            Some(_) => Err(Reason::UnknownWord),
+        }
+    }
+
+    // The matrix runs before curves and lattice, and stands before the lattice.
+    fn take_matrix(&mut self, words: Words<'_>) -> Result<(), Reason> {
+        if self.matrix.is_some() {
+            return Err(Reason::SecondMatrix);
+        }
+        if self.lattice.is_some() {
+            return Err(Reason::LateMatrix);
+        }
+        self.matrix = Some(words.matrix()?);
+        Ok(())
+    }
+
+    // Curves stand before the lattice, or behind it, where they take the channels that it gives.
+    fn take_curves(&mut self, words: Words<'_>) -> Result<(), Reason> {
+        match self.lattice.as_ref().map(|nodes| nodes.outs) {
+            None => fill_curves(&mut self.curves, Reason::SecondCurves, None, words),
+            given => fill_curves(
+                &mut self.last_curves,
+                Reason::SecondLastCurves,
+                given,
+                words,
+            ),
+        }
+    }
+
+    fn take_lattice(&mut self, words: Words<'_>) -> Result<(), Reason> {
+        if self.lattice.is_some() {
+            return Err(Reason::SecondLattice);
+        }
+        let nodes = words.nodes()?;
+        check_fit(self.given_channels(), nodes.ins)?;
+        self.lattice = Some(nodes);
+        Ok(())
+    }
+
+    // The channels that the stages before a lattice give.
+    fn given_channels(&self) -> Option<Channels> {
+        let of_curves = self.curves.as_ref().map(|tables| tables.channels);
+        of_curves.or_else(|| self.matrix.map(|_| Channels::Three))
+    }
+}
+
+// A stage takes the channels that the stage before it gives.
+fn check_fit(given: Option<Channels>, ins: Channels) -> Result<(), Reason> {
+    match given {
+        Some(given) if given != ins => Err(Reason::Misfit),
+        _ => Ok(()),
+    }
+}
+
+// Fills a place that curves may take once.
+fn fill_curves(
+    place: &mut Option<Tables>,
+    second: Reason,
+    given: Option<Channels>,
+    words: Words<'_>,
+) -> Result<(), Reason> {
+    if place.is_some() {
+        return Err(second);
+    }
+    let tables = words.tables()?;
+    check_fit(given, tables.channels)?;
+    *place = Some(tables);
+    Ok(())
 }

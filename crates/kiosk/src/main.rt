@@ -6,7 +6,7 @@ mod run;
 mod samples;
 mod selftest;
 
-use anyhow::anyhow;
+use anyhow::{anyhow, bail, ensure};
 use job::Job;
 use std::process::ExitCode;
 use std::{env, fs};
@@ -18,10 +18,8 @@ fn run_job(rt: &HostRuntime, path: &str) -> anyhow::Result<()> {
     match Job::read(rt.alloc(), text.as_str()) {
         Ok(job) => run::run(rt, &job),
         Err(bad) => {
-            let line = bad.line;
-            let reason = bad.reason;
-            println!(rt; "  not run, line {line}: {reason}")?;
-            Err(anyhow!("the job was not run"))
+            println!(rt; "  not run, {bad}")?;
+            bail!("the job was not run")
         }
     }
 }
@@ -37,24 +35,19 @@ fn run_argument(rt: &HostRuntime, argument: &str) -> anyhow::Result<()> {
 
 // Runs every argument; one that fails is reported, and the others are run all the same.
 fn run_arguments(rt: &HostRuntime) -> anyhow::Result<()> {
-    let mut arguments = env::args(rt)?;
-    let _program = arguments.next();
-    let mut given = false;
-    let mut failed = false;
+    let mut arguments = env::args(rt)?.skip(1).peekable();
+    ensure!(
+        arguments.peek().is_some(),
+        "name one or more job files, or selftest"
+    );
+    let mut outcome = Ok(());
     for argument in arguments {
-        given = true;
         if let Err(error) = run_argument(rt, argument.as_str()) {
             eprintln!(rt; "kiosk: {argument}: {error}")?;
-            failed = true;
+            outcome = Err(anyhow!("not everything was run"));
         }
     }
-    if !given {
-        return Err(anyhow!("name one or more job files, or selftest"));
-    }
-    if failed {
-        return Err(anyhow!("not everything was run"));
-    }
-    Ok(())
+    outcome
 }
 
 fn main(rt: HostRuntime) -> ExitCode {

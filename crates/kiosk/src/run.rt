@@ -1,18 +1,84 @@
 // Runs the rows of a job through its stages and prints what they did, with the bound that is promised.
 use crate::job::{Job, KindName, Nodes, RowTask, Tables};
 use crate::samples::{Sampled, pixels};
-use anyhow::anyhow;
-use link::{Cmyk8, Gray8, Pixel, Refusal, Rgb8, Rgb16, row};
-use meaning::{CHANNELS, hundred_thousandths};
-use stage::{Curves, Joined, Lattice, Matrix, NodeTable, Stage};
+use anyhow::Context;
+use link::{Cmyk8, Gray8, Pixel, Rgb8, Rgb16, row};
+use meaning::{CHANNELS, Channels, hundred_thousandths};
+use stage::{Chain, Colour, Curves, Lattice, Matrix, NodeTable, Stage, Table};
 
-// A pixel's numbers, with a space before each.
-fn print_pixel<P: Sampled>(rt: &HostRuntime, pixel: &P) -> anyhow::Result<()> {
-    let samples = pixel.samples();
-    for sample in samples.iter().take(P::channels().number()) {
-        print!(rt; " {sample}")?;
+// One stage of a job.
+#[derive(Clone, Copy)]
+enum Step<'a> {
+    Matrix(Matrix),
+    Curves(Curves<NodeTable<'a>>),
+    Lattice(Lattice<NodeTable<'a>>),
+}
+
+impl Step<'_> {
+    fn name(&self) -> &'static str {
+        match self {
+            Step::Matrix(_) => "matrix",
+            Step::Curves(_) => "curves",
+            Step::Lattice(_) => "lattice",
+        }
     }
-    Ok(())
+}
+
+// A match in each method, since no function may hand out the `&dyn Stage` that one match would make.
+impl Stage for Step<'_> {
+    ghost use Rattle.kiosk.specs.declared.run.Step.TheVariants.{Matrix, Curves, Lattice};
+
+    ghost meaning = { elim [
+      | Matrix m ↦ ⟦<Matrix as Stage>⟧.meaning m
+      | Curves c ↦ ⟦<Curves<NodeTable<'static>> as Stage>⟧.meaning c
+      | Lattice l ↦ ⟦<Lattice<NodeTable<'static>> as Stage>⟧.meaning l
+    ] };
+
+    ghost lawful = { elim [
+      | Matrix m ↦ ⟦<Matrix as Stage>⟧.lawful m
+      | Curves c ↦ ⟦<Curves<NodeTable<'static>> as Stage>⟧.lawful c
+      | Lattice l ↦ ⟦<Lattice<NodeTable<'static>> as Stage>⟧.lawful l
+    ] };
+
+    fn ins(&self) -> Channels {
+        match self {
+            Step::Matrix(matrix) => matrix.ins(),
+            Step::Curves(curves) => curves.ins(),
+            Step::Lattice(lattice) => lattice.ins(),
+        }
+    }
+
+    fn outs(&self) -> Channels {
+        match self {
+            Step::Matrix(matrix) => matrix.outs(),
+            Step::Curves(curves) => curves.outs(),
+            Step::Lattice(lattice) => lattice.outs(),
+        }
+    }
+
+    fn steepness(&self) -> u32 {
+        match self {
+            Step::Matrix(matrix) => matrix.steepness(),
+            Step::Curves(curves) => curves.steepness(),
+            Step::Lattice(lattice) => lattice.steepness(),
+        }
+    }
+
+    fn error(&self) -> u32 {
+        match self {
+            Step::Matrix(matrix) => matrix.error(),
+            Step::Curves(curves) => curves.error(),
+            Step::Lattice(lattice) => lattice.error(),
+        }
+    }
+
+    fn answer(&self, colour: &Colour) -> Colour {
+        match self {
+            Step::Matrix(matrix) => matrix.answer(colour),
+            Step::Curves(curves) => curves.answer(colour),
+            Step::Lattice(lattice) => lattice.answer(colour),
+        }
+    }
 }
 
 // A bound in grains, and in counts with five decimals.
@@ -24,26 +90,15 @@ fn print_bound(rt: &HostRuntime, grains: u32) -> anyhow::Result<()> {
     Ok(())
 }
 
-// Why a row was refused, with its number.
-fn print_refusal(rt: &HostRuntime, refusal: Refusal) -> anyhow::Result<()> {
-    let number = refusal.number();
-    print!(rt; "  refused, {number}: ")?;
-    match refusal {
-        Refusal::RowLengths => println!(rt; "the two rows are not equally long")?,
-        Refusal::PixelChannels => println!(rt; "the pixels' channels are not the stage's")?,
-    }
-    Ok(())
-}
-
-fn run_row<S: Stage, P: Sampled, Q: Sampled>(
+fn run_row<P: Sampled, Q: Sampled>(
     rt: &HostRuntime,
-    stage: &S,
-    samples: &[u16],
+    chain: &Chain<'_, Step<'_>>,
+    task: &RowTask,
 ) -> anyhow::Result<()> {
-    let enters = P::name();
-    let leaves = Q::name();
+    let enters = task.enters;
+    let leaves = task.leaves;
     println!(rt; "  row, {enters} to {leaves}:")?;
-    let entering: Vec<P> = match pixels(rt.alloc(), samples) {
+    let entering: Vec<P> = match pixels(rt.alloc(), task.samples.as_slice()) {
         Ok(row) => row,
         Err(reason) => {
             println!(rt; "  not run: {reason}")?;
@@ -51,18 +106,18 @@ fn run_row<S: Stage, P: Sampled, Q: Sampled>(
         }
     };
     let blank = Q::make(&[0; CHANNELS]);
-    let mut leaving: Vec<Q> = Vec::new(rt.alloc());
-    for _ in entering.iter() {
-        leaving.push(blank)?;
-    }
-    match row(stage, entering.as_slice(), leaving.as_mut_slice()) {
-        Err(refusal) => print_refusal(rt, refusal)?,
+    let mut leaving = vec![in rt.alloc(); blank; entering.len()]?;
+    match row(chain, entering.as_slice(), leaving.as_mut_slice()) {
+        Err(refusal) => {
+            let number = refusal.number();
+            println!(rt; "  refused, {number}: {refusal}")?;
+        }
         Ok(bound) => {
             for (p, q) in entering.iter().zip(leaving.iter()) {
                 print!(rt; "   ")?;
-                print_pixel(rt, p)?;
+                p.print(rt)?;
                 print!(rt; " ->")?;
-                print_pixel(rt, q)?;
+                q.print(rt)?;
                 println!(rt; "")?;
             }
             print_bound(rt, bound)?;
@@ -71,26 +126,26 @@ fn run_row<S: Stage, P: Sampled, Q: Sampled>(
     Ok(())
 }
 
-fn run_from<S: Stage, P: Sampled>(
+// The kinds are types, which no closure is generic over, so the two sides of a row are named one after the other.
+fn run_from<P: Sampled>(
     rt: &HostRuntime,
-    stage: &S,
+    chain: &Chain<'_, Step<'_>>,
     task: &RowTask,
 ) -> anyhow::Result<()> {
-    let samples = task.samples.as_slice();
     match task.leaves {
-        KindName::Gray8 => run_row::<S, P, Gray8>(rt, stage, samples),
-        KindName::Rgb8 => run_row::<S, P, Rgb8>(rt, stage, samples),
-        KindName::Cmyk8 => run_row::<S, P, Cmyk8>(rt, stage, samples),
-        KindName::Rgb16 => run_row::<S, P, Rgb16>(rt, stage, samples),
+        KindName::Gray8 => run_row::<P, Gray8>(rt, chain, task),
+        KindName::Rgb8 => run_row::<P, Rgb8>(rt, chain, task),
+        KindName::Cmyk8 => run_row::<P, Cmyk8>(rt, chain, task),
+        KindName::Rgb16 => run_row::<P, Rgb16>(rt, chain, task),
     }
 }
 
-fn run_task<S: Stage>(rt: &HostRuntime, stage: &S, task: &RowTask) -> anyhow::Result<()> {
+fn run_task(rt: &HostRuntime, chain: &Chain<'_, Step<'_>>, task: &RowTask) -> anyhow::Result<()> {
     match task.enters {
-        KindName::Gray8 => run_from::<S, Gray8>(rt, stage, task),
-        KindName::Rgb8 => run_from::<S, Rgb8>(rt, stage, task),
-        KindName::Cmyk8 => run_from::<S, Cmyk8>(rt, stage, task),
-        KindName::Rgb16 => run_from::<S, Rgb16>(rt, stage, task),
+        KindName::Gray8 => run_from::<Gray8>(rt, chain, task),
+        KindName::Rgb8 => run_from::<Rgb8>(rt, chain, task),
+        KindName::Cmyk8 => run_from::<Cmyk8>(rt, chain, task),
+        KindName::Rgb16 => run_from::<Rgb16>(rt, chain, task),
     }
 }
 
@@ -107,102 +162,57 @@ fn print_stage<S: Stage>(rt: &HostRuntime, name: &str, stage: &S) -> anyhow::Res
 }
 
 // Curves over the tables of a job, or a sentence that says why there are none.
-fn curves_of<'a>(tables: &'a Tables) -> anyhow::Result<Curves<NodeTable<'a>>> {
-    let table = NodeTable(tables.entries.as_slice());
-    match Curves::new(tables.channels, tables.length, table) {
-        Some(curves) => Ok(curves),
-        None => Err(anyhow!("a table of curves has 2 to 4096 entries")),
-    }
+fn curves_of(tables: &Tables) -> anyhow::Result<Step<'_>> {
+    let table = Table(tables.entries.as_slice());
+    let curves = Curves::new(tables.channels, tables.length, table).context(
+        "a table of curves has 2 to 4096 entries",
+    )?;
+    Ok(Step::Curves(curves))
 }
 
 // A lattice over the nodes of a job, or a sentence that says why there is none.
-fn lattice_of<'a>(nodes: &'a Nodes) -> anyhow::Result<Lattice<NodeTable<'a>>> {
-    let table = NodeTable(nodes.entries.as_slice());
-    match Lattice::new(nodes.ins, nodes.outs, nodes.grid, table) {
-        Some(lattice) => Ok(lattice),
-        None => Err(anyhow!("a lattice has 2 to 255 grid points")),
-    }
+fn lattice_of(nodes: &Nodes) -> anyhow::Result<Step<'_>> {
+    let table = Table(nodes.entries.as_slice());
+    let lattice = Lattice::new(nodes.ins, nodes.outs, nodes.grid, table).context(
+        "a lattice has 2 to 255 grid points",
+    )?;
+    Ok(Step::Lattice(lattice))
 }
 
-// Runs the rows through all stages; where they are more than one, prints what they tell together.
-fn run_rows<S: Stage>(rt: &HostRuntime, stage: &S, joined: bool, job: &Job) -> anyhow::Result<()> {
-    if joined {
-        print_stage(rt, "joined", stage)?;
-    }
-    for task in job.rows.iter() {
-        run_task(rt, stage, task)?;
-    }
+// Prints a step and puts it behind the others.
+fn add<'a>(rt: &HostRuntime, steps: &mut Vec<Step<'a>>, step: Step<'a>) -> anyhow::Result<()> {
+    print_stage(rt, step.name(), &step)?;
+    steps.push(step)?;
     Ok(())
 }
 
-// The stages up to the lattice stand in `stage`; curves may follow.
-fn after_lattice<S: Stage>(
-    rt: &HostRuntime,
-    stage: &S,
-    joined: bool,
-    job: &Job,
-) -> anyhow::Result<()> {
-    let Some(tables) = &job.last_curves else {
-        return run_rows(rt, stage, joined, job);
-    };
-    let curves = curves_of(tables)?;
-    print_stage(rt, "curves", &curves)?;
-    let all = Joined {
-        first: stage,
-        second: curves,
-    };
-    run_rows(rt, &all, true, job)
-}
-
-// The stages up to the first curves stand in `stage`; a lattice may follow.
-fn after_curves<S: Stage>(
-    rt: &HostRuntime,
-    stage: &S,
-    joined: bool,
-    job: &Job,
-) -> anyhow::Result<()> {
-    let Some(nodes) = &job.lattice else {
-        return run_rows(rt, stage, joined, job);
-    };
-    let lattice = lattice_of(nodes)?;
-    print_stage(rt, "lattice", &lattice)?;
-    let both = Joined {
-        first: stage,
-        second: lattice,
-    };
-    after_lattice(rt, &both, true, job)
-}
-
-// A matrix is the first stage; curves may follow.
-fn after_matrix(rt: &HostRuntime, matrix: &Matrix, job: &Job) -> anyhow::Result<()> {
-    let Some(tables) = &job.curves else {
-        return after_curves(rt, matrix, false, job);
-    };
-    let curves = curves_of(tables)?;
-    print_stage(rt, "curves", &curves)?;
-    let both = Joined {
-        first: matrix,
-        second: curves,
-    };
-    after_curves(rt, &both, true, job)
-}
-
-// Prints the stages of a job and runs its rows.
-pub(crate) fn run(rt: &HostRuntime, job: &Job) -> anyhow::Result<()> {
+// The stages of a job in the order in which they run, each printed as it is made.
+fn steps_of<'a>(rt: &HostRuntime, job: &'a Job) -> anyhow::Result<Vec<Step<'a>>> {
+    let mut steps = Vec::new(rt.alloc());
     if let Some(coefficients) = job.matrix {
-        let matrix = Matrix::new(coefficients);
-        print_stage(rt, "matrix", &matrix)?;
-        return after_matrix(rt, &matrix, job);
+        add(rt, &mut steps, Step::Matrix(Matrix::new(coefficients)))?;
     }
     if let Some(tables) = &job.curves {
-        let curves = curves_of(tables)?;
-        print_stage(rt, "curves", &curves)?;
-        return after_curves(rt, &curves, false, job);
+        add(rt, &mut steps, curves_of(tables)?)?;
     }
-    let Some(nodes) = &job.lattice else {
-        return Err(anyhow!("a job has a matrix, curves or a lattice"));
-    };
-    let lattice = lattice_of(nodes)?;
-    print_stage(rt, "lattice", &lattice)?;
-    after_lattice(rt, &lattice, false, job)
+    if let Some(nodes) = &job.lattice {
+        add(rt, &mut steps, lattice_of(nodes)?)?;
+    }
+    if let Some(tables) = &job.last_curves {
+        add(rt, &mut steps, curves_of(tables)?)?;
+    }
+    Ok(steps)
+}
+
+// Prints the stages of a job, and what they tell together where there is more than one, and runs its rows.
+pub(crate) fn run(rt: &HostRuntime, job: &Job) -> anyhow::Result<()> {
+    let steps = steps_of(rt, job)?;
+    let chain = Chain::new(steps.as_slice()).context("a job has a matrix, curves or a lattice")?;
+    if steps.len() > 1 {
+        print_stage(rt, "joined", &chain)?;
+    }
+    for task in job.rows.iter() {
+        run_task(rt, &chain, task)?;
+    }
+    Ok(())
 }

@@ -1,98 +1,88 @@
 // Pixels read from plain numbers, and shown as such.
 use crate::job::Reason;
-use link::{Cmyk8, Gray8, Pixel, Rgb8, Rgb16};
-use meaning::CHANNELS;
+use link::{Cmyk, Gray, Pixel, Rgb};
+use stage::Sample;
 use std::alloc::Global;
+use std::fmt::Display;
+use std::io;
+use std::num::TryFromIntError;
+
+// A sample that is read from a plain number, and written as one.
+pub(crate) trait Number: Sample + Display + TryFrom<u16, Error = TryFromIntError> {}
+
+impl Number for u8 {}
+
+impl Number for u16 {}
 
 // A pixel kind whose pixels are written as one number for each channel.
 pub(crate) trait Sampled: Pixel {
-    fn name() -> &'static str;
-
-    // The pixel of the first numbers of a list, or nothing where one is missing or too large.
+    // The pixel of these numbers, or nothing where they are not one a channel or one is too large.
     fn from_samples(samples: &[u16]) -> Option<Self>;
 
-    // The numbers of a pixel, 0 beyond its channels.
-    fn samples(&self) -> [u16; CHANNELS];
+    // Prints the numbers of the pixel, with a space before each.
+    fn print(&self, rt: &HostRuntime) -> io::Result<()>;
 }
 
-fn byte(samples: &[u16], k: usize) -> Option<u8> {
-    let sample = samples.get(k)?;
-    u8::try_from(*sample).ok()
+// The sample that is written as this number, or nothing where it is too large.
+fn sample<S: Number>(number: u16) -> Option<S> {
+    S::try_from(number).ok()
 }
 
-impl Sampled for Gray8 {
-    fn name() -> &'static str {
-        "gray8"
-    }
-
-    fn from_samples(samples: &[u16]) -> Option<Gray8> {
-        Some(Gray8 {
-            value: byte(samples, 0)?,
+impl<S: Number> Sampled for Gray<S> {
+    fn from_samples(samples: &[u16]) -> Option<Gray<S>> {
+        let &[value] = samples else {
+            return None;
+        };
+        Some(Gray {
+            value: sample(value)?,
         })
     }
 
-    fn samples(&self) -> [u16; CHANNELS] {
-        [self.value as u16, 0, 0, 0]
+    fn print(&self, rt: &HostRuntime) -> io::Result<()> {
+        let Gray { value } = self;
+        print!(rt; " {value}")
     }
 }
 
-impl Sampled for Rgb8 {
-    fn name() -> &'static str {
-        "rgb8"
-    }
-
-    fn from_samples(samples: &[u16]) -> Option<Rgb8> {
-        Some(Rgb8 {
-            red: byte(samples, 0)?,
-            green: byte(samples, 1)?,
-            blue: byte(samples, 2)?,
+impl<S: Number> Sampled for Rgb<S> {
+    fn from_samples(samples: &[u16]) -> Option<Rgb<S>> {
+        let &[red, green, blue] = samples else {
+            return None;
+        };
+        Some(Rgb {
+            red: sample(red)?,
+            green: sample(green)?,
+            blue: sample(blue)?,
         })
     }
 
-    fn samples(&self) -> [u16; CHANNELS] {
-        [self.red as u16, self.green as u16, self.blue as u16, 0]
+    fn print(&self, rt: &HostRuntime) -> io::Result<()> {
+        let Rgb { red, green, blue } = self;
+        print!(rt; " {red} {green} {blue}")
     }
 }
 
-impl Sampled for Cmyk8 {
-    fn name() -> &'static str {
-        "cmyk8"
-    }
-
-    fn from_samples(samples: &[u16]) -> Option<Cmyk8> {
-        Some(Cmyk8 {
-            cyan: byte(samples, 0)?,
-            magenta: byte(samples, 1)?,
-            yellow: byte(samples, 2)?,
-            black: byte(samples, 3)?,
+impl<S: Number> Sampled for Cmyk<S> {
+    fn from_samples(samples: &[u16]) -> Option<Cmyk<S>> {
+        let &[cyan, magenta, yellow, black] = samples else {
+            return None;
+        };
+        Some(Cmyk {
+            cyan: sample(cyan)?,
+            magenta: sample(magenta)?,
+            yellow: sample(yellow)?,
+            black: sample(black)?,
         })
     }
 
-    fn samples(&self) -> [u16; CHANNELS] {
-        [
-            self.cyan as u16,
-            self.magenta as u16,
-            self.yellow as u16,
-            self.black as u16,
-        ]
-    }
-}
-
-impl Sampled for Rgb16 {
-    fn name() -> &'static str {
-        "rgb16"
-    }
-
-    fn from_samples(samples: &[u16]) -> Option<Rgb16> {
-        Some(Rgb16 {
-            red: *samples.first()?,
-            green: *samples.get(1)?,
-            blue: *samples.get(2)?,
-        })
-    }
-
-    fn samples(&self) -> [u16; CHANNELS] {
-        [self.red, self.green, self.blue, 0]
+    fn print(&self, rt: &HostRuntime) -> io::Result<()> {
+        let Cmyk {
+            cyan,
+            magenta,
+            yellow,
+            black,
+        } = self;
+        print!(rt; " {cyan} {magenta} {yellow} {black}")
     }
 }
 
@@ -100,10 +90,7 @@ impl Sampled for Rgb16 {
 pub(crate) fn pixels<P: Sampled>(heap: Global, samples: &[u16]) -> Result<Vec<P>, Reason> {
     let mut row = Vec::new(heap);
     for part in samples.chunks(P::channels().number()) {
-        match P::from_samples(part) {
-            Some(pixel) => row.push(pixel)?,
-            None => return Err(Reason::NotASample),
-        }
+        row.push(P::from_samples(part).ok_or(Reason::NotASample)?)?;
     }
     Ok(row)
 }

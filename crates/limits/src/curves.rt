@@ -1,19 +1,19 @@
 // Curves of 2 and 4,096 entries, their ends, and the sources of their entries.
 use meaning::Channels;
-use stage::{Curves, Joined, NarrowBytes, NodeTable, Stage, WideBytes};
+use stage::{Curves, Joined, Stage, Table, WideBytes};
 use std::test::Fail;
 
 #[test]
 fn tables_have_2_to_4096_entries(rt: HostRuntime) {
-    assert!(rt; Curves::new(Channels::One, 1, NodeTable(&[0, 0])).is_none());
-    assert!(rt; Curves::new(Channels::One, 2, NodeTable(&[0, 0])).is_some());
-    assert!(rt; Curves::new(Channels::Four, 4096, NodeTable(&[0, 0])).is_some());
-    assert!(rt; Curves::new(Channels::Four, 4097, NodeTable(&[0, 0])).is_none());
+    assert!(rt; Curves::new(Channels::One, 1, Table(&[0u16, 0])).is_none());
+    assert!(rt; Curves::new(Channels::One, 2, Table(&[0u16, 0])).is_some());
+    assert!(rt; Curves::new(Channels::Four, 4096, Table(&[0u16, 0])).is_some());
+    assert!(rt; Curves::new(Channels::Four, 4097, Table(&[0u16, 0])).is_none());
 }
 
 #[test]
 fn two_entries_are_a_line(rt: HostRuntime) -> Result<(), Fail> {
-    let table = NarrowBytes(&[0, 255, 255, 0, 127, 128]);
+    let table = Table(&[0u8, 255, 255, 0, 127, 128]);
     let curves = Curves::new(Channels::Three, 2, table).ok_or("refused")?;
     assert_eq!(rt; curves.answer(&[0, 0, 0, 9]), [0, 65_535, 32_639, 0]);
     assert_eq!(rt;
@@ -30,10 +30,10 @@ fn two_entries_are_a_line(rt: HostRuntime) -> Result<(), Fail> {
 
 #[test]
 fn a_longest_table_is_read_to_its_last_entry(rt: HostRuntime) -> Result<(), Fail> {
-    let mut entries = [0; 4096];
+    let mut entries = [0u16; 4096];
     entries[4094] = 100;
     entries[4095] = 65_535;
-    let curves = Curves::new(Channels::One, 4096, NodeTable(&entries)).ok_or("refused")?;
+    let curves = Curves::new(Channels::One, 4096, Table(&entries)).ok_or("refused")?;
     assert_eq!(rt; curves.answer(&[65_535, 0, 0, 0]), [65_535, 0, 0, 0]);
     assert_eq!(rt; curves.answer(&[65_519, 0, 0, 0]), [115, 0, 0, 0]);
     assert_eq!(rt; curves.steepness(), 267_960_414);

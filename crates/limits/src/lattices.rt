@@ -1,6 +1,6 @@
 // Lattices at their corners, at equal remainders, and with 2, 33 and 255 grid points.
 use meaning::Channels;
-use stage::{Curves, Joined, Lattice, NarrowBytes, NodeTable, Stage, WideBytes};
+use stage::{Curves, Joined, Lattice, Stage, Table, WideBytes};
 use std::test::Fail;
 
 // One output at each corner of three channels.
@@ -11,15 +11,15 @@ const SIXTEEN: [u16; 16] = [0, 1, 2, 3, 4, 5, 6, 7, 8, 9, 10, 11, 12, 13, 14, 15
 
 #[test]
 fn a_lattice_has_2_grid_points_or_more(rt: HostRuntime) {
-    assert!(rt; Lattice::new(Channels::One, Channels::One, 0, NodeTable(&EIGHT)).is_none());
-    assert!(rt; Lattice::new(Channels::One, Channels::One, 1, NodeTable(&EIGHT)).is_none());
-    assert!(rt; Lattice::new(Channels::One, Channels::One, 2, NodeTable(&EIGHT)).is_some());
-    assert!(rt; Lattice::new(Channels::Four, Channels::Four, 255, NodeTable(&EIGHT)).is_some());
+    assert!(rt; Lattice::new(Channels::One, Channels::One, 0, Table(&EIGHT)).is_none());
+    assert!(rt; Lattice::new(Channels::One, Channels::One, 1, Table(&EIGHT)).is_none());
+    assert!(rt; Lattice::new(Channels::One, Channels::One, 2, Table(&EIGHT)).is_some());
+    assert!(rt; Lattice::new(Channels::Four, Channels::Four, 255, Table(&EIGHT)).is_some());
 }
 
 #[test]
 fn the_eight_corners_of_three_channels(rt: HostRuntime) -> Result<(), Fail> {
-    let cube = Lattice::new(Channels::Three, Channels::One, 2, NodeTable(&EIGHT)).ok_or("grid")?;
+    let cube = Lattice::new(Channels::Three, Channels::One, 2, Table(&EIGHT)).ok_or("grid")?;
     assert_eq!(rt; cube.answer(&[0, 0, 0, 9]), [0, 0, 0, 0]);
     assert_eq!(rt; cube.answer(&[0, 0, 65_535, 9]), [1_000, 0, 0, 0]);
     assert_eq!(rt; cube.answer(&[0, 65_535, 0, 9]), [2_000, 0, 0, 0]);
@@ -36,7 +36,7 @@ fn the_eight_corners_of_three_channels(rt: HostRuntime) -> Result<(), Fail> {
 
 #[test]
 fn equal_remainders_leave_corners_out(rt: HostRuntime) -> Result<(), Fail> {
-    let cube = Lattice::new(Channels::Three, Channels::One, 2, NodeTable(&EIGHT)).ok_or("grid")?;
+    let cube = Lattice::new(Channels::Three, Channels::One, 2, Table(&EIGHT)).ok_or("grid")?;
     assert_eq!(rt;
         cube.answer(&[39_321, 39_321, 39_321, 0]),
         [36_000, 0, 0, 0]
@@ -60,7 +60,7 @@ fn equal_remainders_leave_corners_out(rt: HostRuntime) -> Result<(), Fail> {
 
 #[test]
 fn four_channels_at_their_ends(rt: HostRuntime) -> Result<(), Fail> {
-    let four = Lattice::new(Channels::Four, Channels::One, 2, NodeTable(&SIXTEEN)).ok_or("grid")?;
+    let four = Lattice::new(Channels::Four, Channels::One, 2, Table(&SIXTEEN)).ok_or("grid")?;
     assert_eq!(rt; four.answer(&[0, 0, 0, 0]), [0, 0, 0, 0]);
     assert_eq!(rt; four.answer(&[0, 0, 0, 65_535]), [1, 0, 0, 0]);
     assert_eq!(rt; four.answer(&[0, 0, 65_535, 0]), [2, 0, 0, 0]);
@@ -80,7 +80,7 @@ fn four_channels_at_their_ends(rt: HostRuntime) -> Result<(), Fail> {
 // The exact value is 4.4. Rounded before the first channel is weighed, it would come to 5.
 #[test]
 fn four_channels_are_rounded_once(rt: HostRuntime) -> Result<(), Fail> {
-    let four = Lattice::new(Channels::Four, Channels::One, 2, NodeTable(&SIXTEEN)).ok_or("grid")?;
+    let four = Lattice::new(Channels::Four, Channels::One, 2, Table(&SIXTEEN)).ok_or("grid")?;
     assert_eq!(rt;
         four.answer(&[13_107, 26_214, 26_214, 26_214]),
         [4, 0, 0, 0]
@@ -91,7 +91,7 @@ fn four_channels_are_rounded_once(rt: HostRuntime) -> Result<(), Fail> {
 
 #[test]
 fn the_outputs_of_a_node_stand_together(rt: HostRuntime) -> Result<(), Fail> {
-    let ends = NodeTable(&[1, 2, 3, 4, 1_000, 0, 65_535, 60_000]);
+    let ends = Table(&[1u16, 2, 3, 4, 1_000, 0, 65_535, 60_000]);
     let line = Lattice::new(Channels::One, Channels::Four, 2, ends).ok_or("grid")?;
     assert_eq!(rt; line.answer(&[0, 9, 9, 9]), [1, 2, 3, 4]);
     assert_eq!(rt; line.answer(&[65_535, 9, 9, 9]), [1_000, 0, 65_535, 60_000]);
@@ -103,11 +103,9 @@ fn the_outputs_of_a_node_stand_together(rt: HostRuntime) -> Result<(), Fail> {
 // All nodes are 0 but the last one.
 #[test]
 fn a_grid_of_33_is_read_to_its_last_node(rt: HostRuntime) -> Result<(), Fail> {
-    let mut nodes = [0; 35_937];
+    let mut nodes = [0u16; 35_937];
     nodes[35_936] = 65_535;
-    let lattice = Lattice::new(Channels::Three, Channels::One, 33, NodeTable(&nodes)).ok_or(
-        "grid",
-    )?;
+    let lattice = Lattice::new(Channels::Three, Channels::One, 33, Table(&nodes)).ok_or("grid")?;
     assert_eq!(rt;
         lattice.answer(&[65_535, 65_535, 65_535, 0]),
         [65_535, 0, 0, 0]
@@ -136,10 +134,10 @@ fn a_grid_of_33_in_pairs_of_bytes(rt: HostRuntime) -> Result<(), Fail> {
 
 #[test]
 fn a_grid_of_255_in_bytes(rt: HostRuntime) -> Result<(), Fail> {
-    let mut bytes = [0; 255];
+    let mut bytes = [0u8; 255];
     bytes[253] = 1;
     bytes[254] = 255;
-    let line = Lattice::new(Channels::One, Channels::One, 255, NarrowBytes(&bytes)).ok_or("grid")?;
+    let line = Lattice::new(Channels::One, Channels::One, 255, Table(&bytes)).ok_or("grid")?;
     assert_eq!(rt; line.answer(&[0, 9, 9, 9]), [0, 0, 0, 0]);
     assert_eq!(rt; line.answer(&[65_534, 9, 9, 9]), [65_282, 0, 0, 0]);
     assert_eq!(rt; line.answer(&[65_535, 9, 9, 9]), [65_535, 0, 0, 0]);
@@ -150,7 +148,7 @@ fn a_grid_of_255_in_bytes(rt: HostRuntime) -> Result<(), Fail> {
 // Behind the one node of this table all nodes are 0. The first channel steps over 255 · 255 or 255 · 255 · 255 of them.
 #[test]
 fn a_grid_of_255_and_one_node(rt: HostRuntime) -> Result<(), Fail> {
-    let table = NodeTable(&[65_535]);
+    let table = Table(&[65_535u16]);
     let three = Lattice::new(Channels::Three, Channels::One, 255, table).ok_or("grid")?;
     assert_eq!(rt; three.answer(&[0, 0, 0, 9]), [65_535, 0, 0, 0]);
     assert_eq!(rt; three.answer(&[258, 0, 0, 9]), [3, 0, 0, 0]);
@@ -169,11 +167,11 @@ fn a_grid_of_255_and_one_node(rt: HostRuntime) -> Result<(), Fail> {
 
 #[test]
 fn curves_a_lattice_and_curves_joined(rt: HostRuntime) -> Result<(), Fail> {
-    let negative = Curves::new(Channels::Three, 2, NarrowBytes(&[255, 0, 255, 0, 255, 0])).ok_or(
+    let negative = Curves::new(Channels::Three, 2, Table(&[255u8, 0, 255, 0, 255, 0])).ok_or(
         "length",
     )?;
-    let cube = Lattice::new(Channels::Three, Channels::One, 2, NodeTable(&EIGHT)).ok_or("grid")?;
-    let bent = Curves::new(Channels::One, 3, NodeTable(&[0, 1_000, 65_535])).ok_or("length")?;
+    let cube = Lattice::new(Channels::Three, Channels::One, 2, Table(&EIGHT)).ok_or("grid")?;
+    let bent = Curves::new(Channels::One, 3, Table(&[0u16, 1_000, 65_535])).ok_or("length")?;
     let chain = Joined {
         first: Joined {
             first: negative,

@@ -1,7 +1,7 @@
 // Rows that are taken and rows that are refused.
 use link::{Gray8, Refusal, Rgb8, row};
 use meaning::Channels;
-use stage::{Curves, NodeTable};
+use stage::{Curves, Table};
 use std::test::Fail;
 
 const ENTERING: [Gray8; 2] = [Gray8 { value: 0 }, Gray8 { value: 200 }];
@@ -10,7 +10,7 @@ const UNTOUCHED: Gray8 = Gray8 { value: 7 };
 
 #[test]
 fn a_negative_of_two_pixels(rt: HostRuntime) -> Result<(), Fail> {
-    let negative = Curves::new(Channels::One, 2, NodeTable(&[65535, 0])).ok_or("length")?;
+    let negative = Curves::new(Channels::One, 2, Table(&[65535u16, 0])).ok_or("length")?;
     let mut leaving = [UNTOUCHED; 2];
     assert_eq!(rt; row(&negative, &ENTERING, &mut leaving), Ok(8_421_376));
     assert_eq!(rt; leaving, [Gray8 { value: 255 }, Gray8 { value: 55 }]);
@@ -19,7 +19,7 @@ fn a_negative_of_two_pixels(rt: HostRuntime) -> Result<(), Fail> {
 
 #[test]
 fn rows_of_two_lengths_are_refused(rt: HostRuntime) -> Result<(), Fail> {
-    let negative = Curves::new(Channels::One, 2, NodeTable(&[65535, 0])).ok_or("length")?;
+    let negative = Curves::new(Channels::One, 2, Table(&[65535u16, 0])).ok_or("length")?;
     let mut leaving = [UNTOUCHED; 3];
     assert_eq!(rt;
         row(&negative, &ENTERING, &mut leaving),
@@ -31,7 +31,7 @@ fn rows_of_two_lengths_are_refused(rt: HostRuntime) -> Result<(), Fail> {
 
 #[test]
 fn other_channels_are_refused_first(rt: HostRuntime) -> Result<(), Fail> {
-    let negative = Curves::new(Channels::One, 2, NodeTable(&[65535, 0])).ok_or("length")?;
+    let negative = Curves::new(Channels::One, 2, Table(&[65535u16, 0])).ok_or("length")?;
     let untouched = Rgb8 {
         red: 1,
         green: 2,

@@ -1,5 +1,5 @@
 -- A made pixel is within the stage's error and its own kind's of the exact value, and so a row delivers what it promises. Assumes nothing.
-use Rattle.std.proofs.Common.{◌≡◌, ℕ, ◌+◌, ◌*◌, ◌<◌, ◌≤◌, min, List, map, get_or, Some, None, Option, Result, ⊎_elim, arith}
+use Rattle.std.proofs.Common.{◌≡◌, ℕ, ◌+◌, ◌*◌, ◌<◌, ◌≤◌, min, List, get_or, Some, None, Option, Result, ⊎_elim, arith}
 use Rattle.std.proofs.lemmas.List.{length-map, get_or-map}
 use Rattle.std.proofs.lemmas.Bool.{cases_lt}
 use Rattle.meaning.specs.Colours.{grains, full_range, number, at, num, Colour, Exact, Valid, whole}
@@ -9,7 +9,7 @@ use Rattle.meaning.proofs.Nearness.{over_more, over_add, near_range, valid_whole
 use Rattle.link.specs.declared.refusal.Refusal.{Refusal}
 use Rattle.link.specs.Refusals.{answered, left, Accepted}
 use Rattle.link.specs.Kinds.{Kind, LawfulKind}
-use Rattle.link.specs.Rows.{row_bound, row_pixels, Within, Delivers}
+use Rattle.link.specs.Rows.{row_bound, row_pixel, row_pixels, Within, Delivers}
 
 -- counts that differ by a gap of at most e grains
 gap_within : (e a b : ℕ) → gap a b * grains ≤ e → Over e grains a 1 b 1 × Over e grains b 1 a 1
@@ -39,22 +39,19 @@ made_within kq laws n a x colour valid near k h =
     rw is (within_add n kq.error (at s k) (at a k) k x valid.positive (laws.close a colour k h) (near.above k, near.below k)))
     (cases_lt full_range (n + kq.error))
 
--- pixels made from colours within n grains of the exact values keep the bound of n and the kind's error
-pub made_deliver : {P Q : Type 0} (m : Meaning) (kp : Kind P) (kq : Kind Q) → Lawful m → LawfulKind kp → LawfulKind kq → (f : List ℕ → List ℕ) (n : ℕ) → ((c : List ℕ) → Colour c → Colour (f c)) → ((c : List ℕ) → Colour c → Near n grains (whole (f c)) (m.exact (whole c))) → (entering : List P) → Delivers m kp kq entering (map (λ p. kq.made (f (kp.shown p))) entering) (min full_range (n + kq.error))
-made_deliver m kp kq laws lp lq f n colours near entering = record {
-  as_long = length-map entering (λ p. kq.made (f (kp.shown p)));
-  within = λ i h p q k l.
-      let c = kp.shown (get_or entering i p) in
-      let shown = lp.shows (get_or entering i p) in
-      rw (get_or-map (λ p. kq.made (f (kp.shown p))) entering i p q h)
-      (made_within kq lq n (f c) (m.exact (whole c)) (colours c shown) (laws.stays (whole c) (valid_whole c shown)) (near c shown) k l);
-}
+module _ {P Q : Type 0} (m : Meaning) (kp : Kind P) (kq : Kind Q) (laws : Lawful m) (lp : LawfulKind kp) (lq : LawfulKind kq) (entering : List P) where
+  -- the pixels of a row keep its bound
+  pub row_delivers : Delivers m kp kq entering (row_pixels m kp kq entering) (row_bound m kq.error)
+  row_delivers = record {
+    as_long = length-map entering (row_pixel m kp kq);
+    within = λ i h p q k l.
+        let c = kp.shown (get_or entering i p) in
+        let shown = lp.shows (get_or entering i p) in
+        rw (get_or-map (row_pixel m kp kq) entering i p q h)
+        (made_within kq lq m.error (m.answer c) (m.exact (whole c)) (laws.answers c shown) (laws.stays (whole c) (valid_whole c shown)) (laws.close c shown) k l);
+  }
 
--- the pixels of a row keep its bound
-pub row_delivers : {P Q : Type 0} (m : Meaning) (kp : Kind P) (kq : Kind Q) → Lawful m → LawfulKind kp → LawfulKind kq → (entering : List P) → Delivers m kp kq entering (row_pixels m kp kq entering) (row_bound m kq.error)
-row_delivers m kp kq laws lp lq entering = made_deliver m kp kq laws lp lq m.answer m.error laws.answers laws.close entering
-
--- a call that answers with the row's bound and leaves the row's pixels, unless it is refused, keeps the law
-pub row_accepted : {P Q : Type 0} (m : Meaning) (kp : Kind P) (kq : Kind Q) → Lawful m → LawfulKind kp → LawfulKind kq → (entering : List P) (was now : List Q) (o : Option Refusal) (r : Result ℕ Refusal) → r ≡ answered o (row_bound m kq.error) → now ≡ left o was (row_pixels m kp kq entering) → Accepted r (Delivers m kp kq entering now)
-row_accepted m kp kq laws lp lq entering was now None r answer leaves = rw (answer, leaves) (row_delivers m kp kq laws lp lq entering)
-row_accepted m kp kq laws lp lq entering was now (Some e) r answer leaves = rw answer tt
+  -- a call that answers with the row's bound and leaves the row's pixels, unless it is refused, keeps the law
+  pub row_accepted : (was now : List Q) (o : Option Refusal) (r : Result ℕ Refusal) → r ≡ answered o (row_bound m kq.error) → now ≡ left o was (row_pixels m kp kq entering) → Accepted r (Delivers m kp kq entering now)
+  row_accepted was now None r answer leaves = rw (answer, leaves) row_delivers
+  row_accepted was now (Some e) r answer leaves = rw answer tt

@@ -1,114 +1,92 @@
--- The pixel kinds keep the laws: shown once for each width of a channel, and once for all kinds over a width. Assumes nothing.
-use Rattle.std.specs.Prelude.{◌≡◌, ℕ, ◌-◌, ◌*◌, ◌<◌, ◌≤◌, List, map, length, replicate, refl}
-use Rattle.std.proofs.Common.{sym, ap, ◌∙◌, ⊎_elim, arith}
+-- The pixel kinds keep the laws, over any width that keeps its own: shown once for all kinds. Assumes nothing.
+use Rattle.std.specs.Prelude.{◌≡◌, ℕ, ◌<◌, ◌≤◌, List, map, length, refl}
+use Rattle.std.proofs.Common.{get_or, sym, ap, ◌∙◌, ⊎_elim, arith}
 use Rattle.std.specs.List.{range_with_len}
 use Rattle.std.proofs.lemmas.List.FromFn.{get_or-map-range_with_len}
-use Rattle.std.proofs.lemmas.List.{length-map, length-append, length-replicate, get_or-map, get_or_append_left, get_or-append_right, get_or-replicate, get_or_past, ext_get_or}
+use Rattle.std.proofs.lemmas.List.{length-map, length-append, length-replicate, get_or-map, get_or_past, ext_get_or}
 use Rattle.std.proofs.lemmas.Bool.{cases_lt}
+use Rattle.std.proofs.lemmas.Grind.{common_steps}
 use Rattle.meaning.specs.declared.Channels.{Channels}
-use Rattle.meaning.specs.Colours.{channels, max_count, grains, full_range, number, at}
-use Rattle.meaning.specs.Distances.{gap}
+use Rattle.meaning.specs.Colours.{channels, number, at}
 use Rattle.meaning.proofs.Channelwise.{number_limit}
+use Rattle.stage.specs.Samples.{Width, LawfulWidth, shown_count, eight_bits_lawful, sixteen_bits_lawful}
 use Rattle.link.specs.Kinds.{LawfulKind}
-use Rattle.link.specs.Pixels.{Sample, eight_bits, sixteen_bits, padded, stored, gray8, rgb8, cmyk8, rgb16, gray8_numbers, rgb8_numbers, cmyk8_numbers, rgb16_numbers}
-
--- what every width of a channel keeps
-record LawfulSample (s : Sample) : Type 0 where
-  error_limit : s.error ≤ full_range
-  limit : (v : ℕ) → s.widens v ≤ max_count
-  close : (c : ℕ) → c ≤ max_count → gap (s.widens (s.narrows c)) c * grains ≤ s.error
-  back : (v : ℕ) → s.widens (s.narrows (s.widens v)) ≡ s.widens v
-
-eight_bits_lawful : LawfulSample eight_bits
-eight_bits_lawful = record {
-  error_limit = omega arith;
-  limit = λ v. omega arith;
-  close = λ c h. omega arith;
-  back = λ v. omega arith;
-}
-
-sixteen_bits_lawful : LawfulSample sixteen_bits
-sixteen_bits_lawful = record {
-  error_limit = omega arith;
-  limit = λ v. omega arith;
-  close = λ c h. omega arith;
-  back = λ v. omega arith;
-}
-
-at_zeros : (n k : ℕ) → at (replicate n 0) k ≡ 0
-at_zeros n k =
-    ⊎_elim
-    (λ (l : k < n). get_or-replicate n k 0 0 l)
-    (λ (l : n ≤ k). get_or_past (replicate n 0) k 0 (rw (length-replicate {A = ℕ} n 0) l))
-    (cases_lt k n)
+use Rattle.link.specs.Pixels.{padded, stored, gray, rgb, cmyk, gray8, rgb8, cmyk8, rgb16, gray_samples, gray_of, rgb_samples, rgb_of, cmyk_samples, cmyk_of}
 
 length_padded : (cs : List ℕ) → length cs ≤ channels → length (padded cs) ≡ channels
-length_padded cs h =
-    let e = length-append cs (replicate (channels - length cs) 0) in
-    let z = length-replicate {A = ℕ} (channels - length cs) 0 in
-    omega (arith, e, z)
+length_padded cs h = simp (length-append, length-replicate) (omega arith)
 
-padded_within : (cs : List ℕ) (k : ℕ) → k < length cs → at (padded cs) k ≡ at cs k
-padded_within cs k h = get_or_append_left cs (replicate (channels - length cs) 0) 0 k h
+padded_at : (cs : List ℕ) (k : ℕ) → at (padded cs) k ≡ at cs k
+padded_at cs k = grind (arith, common_steps)
 
-padded_beyond : (cs : List ℕ) (k : ℕ) → length cs ≤ k → at (padded cs) k ≡ 0
-padded_beyond cs k h =
-    get_or-append_right cs (replicate (channels - length cs) 0) (length cs) k 0 refl h ∙ at_zeros (channels - length cs) (k - length cs)
+-- a kind over one width keeps the laws where a pixel has as many samples as channels, and a made pixel's are those given
+module _ {S P : Type 0} (n : Channels) (w : Width S) (samples : P → List S) (pixel : (ℕ → S) → P) (laws : LawfulWidth w) (many : (p : P) → length (samples p) ≡ number n) (given : (f : ℕ → S) → samples (pixel f) ≡ map f (range_with_len 0 (number n))) where
+  abbrev counts : P → List ℕ
+  counts p = map (shown_count w) (samples p)
 
--- a kind over one width keeps the laws where a pixel has as many numbers as channels, and a made pixel's are those given
-module _ {P : Type 0} (w : Channels) (s : Sample) (numbers : P → List ℕ) (pixel : (ℕ → ℕ) → P) (laws : LawfulSample s) (many : (p : P) → length (numbers p) ≡ number w) (given : (f : ℕ → ℕ) → numbers (pixel f) ≡ map f (range_with_len 0 (number w))) where
-  long : (p : P) → length (map s.widens (numbers p)) ≡ number w
-  long p = length-map (numbers p) s.widens ∙ many p
+  abbrev made : List ℕ → P
+  made c = pixel (λ k. w.nearest (at c k))
 
-  shown_within : (p : P) (k : ℕ) → k < number w → at (padded (map s.widens (numbers p))) k ≡ s.widens (at (numbers p) k)
-  shown_within p k h =
-      padded_within (map s.widens (numbers p)) k (rw (long p) h) ∙ get_or-map s.widens (numbers p) k 0 0 (rw (many p) h)
+  long : (p : P) → length (counts p) ≡ number n
+  long p = length-map (samples p) (shown_count w) ∙ many p
 
-  shown_beyond : (p : P) (k : ℕ) → number w ≤ k → at (padded (map s.widens (numbers p))) k ≡ 0
-  shown_beyond p k h = padded_beyond (map s.widens (numbers p)) k (rw (long p) h)
+  -- the count that the sample of channel k shows
+  count_at : (p : P) (k : ℕ) → k < number n → at (counts p) k ≡ shown_count w (get_or (samples p) k (w.nearest 0))
+  count_at p k h = get_or-map (shown_count w) (samples p) k (w.nearest 0) 0 (rw (many p) h)
 
-  given_at : (f : ℕ → ℕ) (k : ℕ) → k < number w → at (numbers (pixel f)) k ≡ f k
-  given_at f k h = ap (λ ns. at ns k) (given f) ∙ get_or-map-range_with_len f 0 (number w) k k 0 h (omega arith)
+  count_beyond : (p : P) (k : ℕ) → number n ≤ k → at (counts p) k ≡ 0
+  count_beyond p k h = get_or_past (counts p) k 0 (rw (long p) h)
 
-  made_shown : (c : List ℕ) (k : ℕ) → k < number w → at (padded (map s.widens (numbers (pixel (λ j. s.narrows (at c j)))))) k ≡ s.widens (s.narrows (at c k))
-  made_shown c k h = shown_within (pixel (λ j. s.narrows (at c j))) k h ∙ ap s.widens (given_at (λ j. s.narrows (at c j)) k h)
+  made_at : (c : List ℕ) (k : ℕ) → k < number n → at (counts (made c)) k ≡ shown_count w (w.nearest (at c k))
+  made_at c k h =
+      count_at (made c) k h
+      ∙ rw (given (λ j. w.nearest (at c j)), get_or-map-range_with_len (λ j. w.nearest (at c j)) 0 (number n) k k (w.nearest 0) h (omega arith)) refl
 
-  same_numbers : (p : P) → map s.widens (numbers (pixel (λ j. s.narrows (at (padded (map s.widens (numbers p))) j)))) ≡ map s.widens (numbers p)
-  same_numbers p =
-      let made = pixel (λ j. s.narrows (at (padded (map s.widens (numbers p))) j)) in
-      ext_get_or 0 (map s.widens (numbers made)) (map s.widens (numbers p)) (long made ∙ sym (long p))
+  same_counts : (p : P) → counts (made (padded (counts p))) ≡ counts p
+  same_counts p =
+      let again = made (padded (counts p)) in
+      ext_get_or 0 (counts again) (counts p) (long again ∙ sym (long p))
       (λ k h.
-      let l : k < number w = rw (long made) at h in
-      get_or-map s.widens (numbers made) k 0 0 (rw (many made) l)
-      ∙ ap s.widens (given_at (λ j. s.narrows (at (padded (map s.widens (numbers p))) j)) k l)
-      ∙ ap (λ c. s.widens (s.narrows c)) (shown_within p k l)
-      ∙ laws.back (at (numbers p) k)
-      ∙ sym (get_or-map s.widens (numbers p) k 0 0 (rw (many p) l)))
+      let l : k < number n = rw (long again) at h in
+      made_at (padded (counts p)) k l
+      ∙ rw (padded_at (counts p) k, count_at p k l) (laws.back (get_or (samples p) k (w.nearest 0))))
 
-  stored_lawful : LawfulKind (stored w s numbers pixel)
+  stored_lawful : LawfulKind (stored n w samples pixel)
   stored_lawful = record {
     error_limit = laws.error_limit;
     shows = λ p. record {
-      long = length_padded (map s.widens (numbers p)) (rw (long p) (number_limit w));
+      long = length_padded (counts p) (rw (long p) (number_limit n));
       within = λ k.
-          ⊎_elim
-          (λ (h : k < number w). rw (shown_within p k h) (laws.limit (at (numbers p) k)))
-          (λ (h : number w ≤ k). rw (shown_beyond p k h) (omega arith))
-          (cases_lt k (number w));
+          rw (padded_at (counts p) k)
+          (⊎_elim
+          (λ (h : k < number n). rw (count_at p k h) (omega arith))
+          (λ (h : number n ≤ k). rw (count_beyond p k h) (omega arith))
+          (cases_lt k (number n)));
     };
-    zero_beyond = shown_beyond;
-    close = λ c h k l. rw (made_shown c k l) (laws.close (at c k) (h.within k));
-    back = λ p. ap padded (same_numbers p);
+    zero_beyond = λ p k h. padded_at (counts p) k ∙ count_beyond p k h;
+    close = λ c h k l. rw (padded_at (counts (made c)) k, made_at c k l) (laws.close (at c k) (h.within k));
+    back = λ p. ap padded (same_counts p);
   }
 
+-- what the width keeps, each kind over it keeps
+pub gray_lawful : {S : Type 0} {w : Width S} → LawfulWidth w → LawfulKind (gray w)
+gray_lawful {S} {w} laws = stored_lawful _ w gray_samples gray_of laws (λ p. refl) (λ f. refl)
+
+pub rgb_lawful : {S : Type 0} {w : Width S} → LawfulWidth w → LawfulKind (rgb w)
+rgb_lawful {S} {w} laws = stored_lawful _ w rgb_samples rgb_of laws (λ p. refl) (λ f. refl)
+
+pub cmyk_lawful : {S : Type 0} {w : Width S} → LawfulWidth w → LawfulKind (cmyk w)
+cmyk_lawful {S} {w} laws = stored_lawful _ w cmyk_samples cmyk_of laws (λ p. refl) (λ f. refl)
+
+-- the four that programs use
 pub gray8_lawful : LawfulKind gray8
-gray8_lawful = stored_lawful _ _ gray8_numbers (λ f. record { value = f 0 }) eight_bits_lawful (λ p. refl) (λ f. refl)
+gray8_lawful = gray_lawful eight_bits_lawful
 
 pub rgb8_lawful : LawfulKind rgb8
-rgb8_lawful = stored_lawful _ _ rgb8_numbers (λ f. record { red = f 0; green = f 1; blue = f 2 }) eight_bits_lawful (λ p. refl) (λ f. refl)
+rgb8_lawful = rgb_lawful eight_bits_lawful
 
 pub cmyk8_lawful : LawfulKind cmyk8
-cmyk8_lawful = stored_lawful _ _ cmyk8_numbers (λ f. record { cyan = f 0; magenta = f 1; yellow = f 2; black = f 3 }) eight_bits_lawful (λ p. refl) (λ f. refl)
+cmyk8_lawful = cmyk_lawful eight_bits_lawful
 
 pub rgb16_lawful : LawfulKind rgb16
-rgb16_lawful = stored_lawful _ _ rgb16_numbers (λ f. record { red = f 0; green = f 1; blue = f 2 }) sixteen_bits_lawful (λ p. refl) (λ f. refl)
+rgb16_lawful = rgb_lawful sixteen_bits_lawful

@@ -1,5 +1,5 @@
--- Refusals: their numbers, and what a call that may refuse answers and leaves.
-use Rattle.std.specs.Prelude.{ℕ, Some, None, Ok, Err, Option, Result}
+-- Refusals: their numbers and sentences, and what a call that may refuse answers and leaves.
+use Rattle.std.specs.Prelude.{ℕ, List, Some, None, Ok, Err, Option, Result, codes}
 use Rattle.link.specs.declared.refusal.Refusal.{Refusal}
 use Rattle.link.specs.declared.refusal.Refusal.TheVariants.{RowLengths, PixelChannels}
 
@@ -7,6 +7,11 @@ use Rattle.link.specs.declared.refusal.Refusal.TheVariants.{RowLengths, PixelCha
 abbrev pub number_of : Refusal → ℕ
 number_of RowLengths = 30
 number_of PixelChannels = 31
+
+-- the sentence that tells why, as ASCII text
+abbrev pub sentence_of : Refusal → List ℕ
+sentence_of RowLengths = codes "the two rows are not equally long"
+sentence_of PixelChannels = codes "the pixels' channels are not the stage's"
 
 -- what a call answers: its value, or why it was refused
 abbrev pub answered : {A : Type 0} → Option Refusal → A → Result A Refusal

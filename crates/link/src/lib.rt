@@ -5,6 +5,6 @@ pub mod pixel;
 pub mod refusal;
 pub mod rows;
 
-pub use pixel::{Cmyk8, Gray8, Pixel, Rgb8, Rgb16};
+pub use pixel::{Cmyk, Cmyk8, Gray, Gray8, Pixel, Rgb, Rgb8, Rgb16};
 pub use refusal::Refusal;
 pub use rows::row;

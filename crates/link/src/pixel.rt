@@ -1,11 +1,11 @@
 // Pixel kinds: how a pixel shows a colour, and how one is made from a colour.
 ghost use Rattle.std.specs.Prelude.{◌≡◌};
 ghost use Rattle.link.specs.Kinds.{Kind, LawfulKind};
-ghost use Rattle.link.specs.Pixels.{widened, narrowed, held, gray8, rgb8, cmyk8, rgb16};
-ghost use Rattle.link.specs.PixelLaws.{gray8_lawful, rgb8_lawful, cmyk8_lawful, rgb16_lawful};
+ghost use Rattle.link.specs.Pixels.{gray, rgb, cmyk};
+ghost use Rattle.link.specs.PixelLaws.{gray_lawful, rgb_lawful, cmyk_lawful};
 
-use meaning::{CHANNELS, Channels, GRAINS};
-use stage::Colour;
+use meaning::Channels;
+use stage::{Colour, Sample};
 
 // A pixel kind. Its pixels are plain values.
 pub trait Pixel: Copy {
@@ -32,171 +32,116 @@ pub trait Pixel: Copy {
         ensures { result ≡ kind.made colour.now };
 }
 
+// One channel, in samples of one width.
 #[derive(Clone, Copy, PartialEq, Eq, Debug)]
-pub struct Gray8 {
-    pub value: u8,
+pub struct Gray<S> {
+    pub value: S,
 }
 
+// Three channels.
 #[derive(Clone, Copy, PartialEq, Eq, Debug)]
-pub struct Rgb8 {
-    pub red: u8,
-    pub green: u8,
-    pub blue: u8,
+pub struct Rgb<S> {
+    pub red: S,
+    pub green: S,
+    pub blue: S,
 }
 
+// Four channels.
 #[derive(Clone, Copy, PartialEq, Eq, Debug)]
-pub struct Cmyk8 {
-    pub cyan: u8,
-    pub magenta: u8,
-    pub yellow: u8,
-    pub black: u8,
+pub struct Cmyk<S> {
+    pub cyan: S,
+    pub magenta: S,
+    pub yellow: S,
+    pub black: S,
 }
 
-#[derive(Clone, Copy, PartialEq, Eq, Debug)]
-pub struct Rgb16 {
-    pub red: u16,
-    pub green: u16,
-    pub blue: u16,
-}
+// The kinds that programs use: eight bits a channel, or sixteen.
+pub type Gray8 = Gray<u8>;
 
-// Half of the 257 counts between two neighbouring bytes, rounded down, in grains.
-const EIGHT_BIT_ERROR: u32 = 128 * GRAINS;
+pub type Rgb8 = Rgb<u8>;
 
-// The count that a byte shows.
-fn widen(byte: u8) -> u16
-    ensures { result ≡ widened byte }
-{
-    u16::from(byte) * 257
-}
+pub type Cmyk8 = Cmyk<u8>;
 
-// The byte whose count is nearest.
-fn narrow(count: u16) -> u8
-    ensures { result ≡ narrowed count }
-{
-    ((u32::from(count) + 128) / 257) as u8
-}
+pub type Rgb16 = Rgb<u16>;
 
-// The count that a number of sixteen bits shows: itself. A call, so that the proof sees that the field fits.
-fn count_of(number: u16) -> u16
-    ensures { result ≡ held number }
-{
-    number
-}
+impl<S: Sample> Pixel for Gray<S> {
+    ghost kind = { gray S.width };
 
-impl Pixel for Gray8 {
-    ghost kind = { gray8 };
-
-    ghost lawful = { gray8_lawful };
+    ghost lawful = { gray_lawful S.lawful };
 
     fn channels() -> Channels {
         Channels::One
     }
 
     fn error() -> u32 {
-        EIGHT_BIT_ERROR
+        S::error()
     }
 
     fn show(&self) -> Colour {
-        let mut colour = [0; CHANNELS];
-        colour[0] = widen(self.value);
-        colour
+        [self.value.count(), 0, 0, 0]
     }
 
-    fn make(colour: &Colour) -> Gray8 {
-        Gray8 {
-            value: narrow(colour[0]),
+    fn make(colour: &Colour) -> Gray<S> {
+        Gray {
+            value: S::nearest(colour[0]),
         }
     }
 }
 
-impl Pixel for Rgb8 {
-    ghost kind = { rgb8 };
+impl<S: Sample> Pixel for Rgb<S> {
+    ghost kind = { rgb S.width };
 
-    ghost lawful = { rgb8_lawful };
+    ghost lawful = { rgb_lawful S.lawful };
 
     fn channels() -> Channels {
         Channels::Three
     }
 
     fn error() -> u32 {
-        EIGHT_BIT_ERROR
+        S::error()
     }
 
     fn show(&self) -> Colour {
-        let mut colour = [0; CHANNELS];
-        colour[0] = widen(self.red);
-        colour[1] = widen(self.green);
-        colour[2] = widen(self.blue);
-        colour
+        [self.red.count(), self.green.count(), self.blue.count(), 0]
     }
 
-    fn make(colour: &Colour) -> Rgb8 {
-        Rgb8 {
-            red: narrow(colour[0]),
-            green: narrow(colour[1]),
-            blue: narrow(colour[2]),
+    fn make(colour: &Colour) -> Rgb<S> {
+        Rgb {
+            red: S::nearest(colour[0]),
+            green: S::nearest(colour[1]),
+            blue: S::nearest(colour[2]),
         }
     }
 }
 
-impl Pixel for Cmyk8 {
-    ghost kind = { cmyk8 };
+impl<S: Sample> Pixel for Cmyk<S> {
+    ghost kind = { cmyk S.width };
 
-    ghost lawful = { cmyk8_lawful };
+    ghost lawful = { cmyk_lawful S.lawful };
 
     fn channels() -> Channels {
         Channels::Four
     }
 
     fn error() -> u32 {
-        EIGHT_BIT_ERROR
+        S::error()
     }
 
     fn show(&self) -> Colour {
-        let mut colour = [0; CHANNELS];
-        colour[0] = widen(self.cyan);
-        colour[1] = widen(self.magenta);
-        colour[2] = widen(self.yellow);
-        colour[3] = widen(self.black);
-        colour
+        [
+            self.cyan.count(),
+            self.magenta.count(),
+            self.yellow.count(),
+            self.black.count(),
+        ]
     }
 
-    fn make(colour: &Colour) -> Cmyk8 {
-        Cmyk8 {
-            cyan: narrow(colour[0]),
-            magenta: narrow(colour[1]),
-            yellow: narrow(colour[2]),
-            black: narrow(colour[3]),
-        }
-    }
-}
-
-impl Pixel for Rgb16 {
-    ghost kind = { rgb16 };
-
-    ghost lawful = { rgb16_lawful };
-
-    fn channels() -> Channels {
-        Channels::Three
-    }
-
-    fn error() -> u32 {
-        0
-    }
-
-    fn show(&self) -> Colour {
-        let mut colour = [0; CHANNELS];
-        colour[0] = count_of(self.red);
-        colour[1] = count_of(self.green);
-        colour[2] = count_of(self.blue);
-        colour
-    }
-
-    fn make(colour: &Colour) -> Rgb16 {
-        Rgb16 {
-            red: colour[0],
-            green: colour[1],
-            blue: colour[2],
+    fn make(colour: &Colour) -> Cmyk<S> {
+        Cmyk {
+            cyan: S::nearest(colour[0]),
+            magenta: S::nearest(colour[1]),
+            yellow: S::nearest(colour[2]),
+            black: S::nearest(colour[3]),
         }
     }
 }

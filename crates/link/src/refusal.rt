@@ -1,6 +1,8 @@
-// Why a call is refused, each reason with its number.
-ghost use Rattle.std.specs.Prelude.{◌≡◌};
-ghost use Rattle.link.specs.Refusals.{number_of};
+// Why a call is refused, each reason with its number and its sentence.
+ghost use Rattle.std.specs.Prelude.{◌≡◌, Some};
+ghost use Rattle.link.specs.Refusals.{number_of, sentence_of};
+
+use std::fmt;
 
 #[derive(Clone, Copy, PartialEq, Eq, Debug)]
 pub enum Refusal {
@@ -18,6 +20,18 @@ impl Refusal {
         match self {
             Refusal::RowLengths => 30,
             Refusal::PixelChannels => 31,
+        }
+    }
+}
+
+// The sentence that tells the reason.
+impl fmt::Display for Refusal {
+    ghost output = { λ refusal. Some (sentence_of refusal) };
+
+    fn fmt<W: fmt::Write>(&self, f: &mut fmt::Formatter<W>) -> fmt::Result {
+        match self {
+            Refusal::RowLengths => f.write_str("the two rows are not equally long"),
+            Refusal::PixelChannels => f.write_str("the pixels' channels are not the stage's"),
         }
     }
 }

@@ -17,9 +17,7 @@ fn refused<S: Stage, P: Pixel, Q: Pixel>(
 ) -> Option<Refusal>
     ensures { result ≡ row_refusal (S.Stage.meaning stage.now) P.Pixel.kind.channels Q.Pixel.kind.channels (length entering.now) (length leaving.now) }
 {
-    if stage.ins().number() != P::channels().number()
-        || stage.outs().number() != Q::channels().number()
-    {
+    if stage.ins() != P::channels() || stage.outs() != Q::channels() {
         Some(Refusal::PixelChannels)
     } else if entering.len() != leaving.len() {
         Some(Refusal::RowLengths)
@@ -32,8 +30,7 @@ fn refused<S: Stage, P: Pixel, Q: Pixel>(
 fn bound(stage: u32, kind: u32) -> u32
     ensures { result ≡ min full_range (stage + kind) }
 {
-    let sum = u64::from(stage) + u64::from(kind);
-    sum.min(u64::from(FULL_RANGE)) as u32
+    stage.saturating_add(kind).min(FULL_RANGE)
 }
 
 // The pixel that leaves where this one enters.
@@ -48,12 +45,14 @@ fn convert<S: Stage, P: Pixel, Q: Pixel>(stage: &S, entering: &[P], leaving: &mu
     requires { length entering.now ≡ length leaving.old }
     ensures { leaving.new ≡ row_pixels (S.Stage.meaning stage.now) P.Pixel.kind Q.Pixel.kind entering.now }
 {
+    // By index, since what a zip with `iter_mut` writes is not known after the loop.
     for (i, pixel) in entering.iter().enumerate() {
         leaving[i] = converted(stage, pixel);
     }
 }
 
-// The row call, pinned: what it answers and what it leaves.
+// The row call, pinned: what it answers and what it leaves. It stands apart from `row`, whose proof cites a theorem, so
+// that a wrong line is refused here and not in a proof.
 fn send<S: Stage, P: Pixel, Q: Pixel>(
     stage: &S,
     entering: &[P],

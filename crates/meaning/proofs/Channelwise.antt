@@ -1,7 +1,7 @@
 -- Lists of channels read channel by channel. Assumes nothing.
-use Rattle.std.proofs.Common.{◌≡◌, ℕ, zero, suc, ◌+◌, ◌<◌, ◌≤◌, cond, ltb, ◌≢◌, List, [], ◌∷◌, map, length, set, sym, refl, ap, ◌∙◌, ⊎_elim, arith}
+use Rattle.std.proofs.Common.{◌≡◌, ℕ, zero, suc, ◌<◌, ◌≤◌, cond, ltb, List, [], ◌∷◌, map, length, sym, refl, ◌∙◌, ⊎_elim, arith}
 use Rattle.std.proofs.lemmas.List.FromFn.{get_or-map-range_with_len, length-map-range_with_len}
-use Rattle.std.proofs.lemmas.List.{get_or_past, get_or-set_same, get_or-set_other, length-set, ext_get_or, map-set}
+use Rattle.std.proofs.lemmas.List.{get_or_past}
 use Rattle.std.proofs.lemmas.Bool.{lt-ltb, le-ltb, cond-true, cond-false, cases_lt}
 use Rattle.meaning.specs.declared.Channels.{Channels}
 use Rattle.meaning.specs.declared.Channels.TheVariants.{One, Three, Four}
@@ -44,28 +44,3 @@ each_channel n f P l z h k =
     (λ (i : k < n). rw (spread_within n f k l i) (h k i))
     (λ (o : n ≤ k). rw (spread_beyond n f k o) z)
     (cases_lt k n)
-
--- one channel more
-pub spread_more : (n : ℕ) (f : ℕ → ℕ) → n < channels → set (spread n f) n (f n) ≡ spread (n + 1) f
-spread_more n f h =
-    let long = length_spread n f in
-    let long' = length-set (spread n f) n (f n) in
-    ext_get_or 0 (set (spread n f) n (f n)) (spread (n + 1) f) (long' ∙ long ∙ sym (length_spread (n + 1) f)) (λ k l.
-    ⊎_elim
-    (λ (i : k < n).
-    let ne : k ≢ n = omega arith in
-    get_or-set_other (spread n f) n k (f n) 0 ne ∙ spread_within n f k (omega arith) i ∙ sym (spread_within (n + 1) f k (omega arith) (omega arith)))
-    (λ (o : n ≤ k).
-    ⊎_elim
-    (λ (m : n < k).
-    let ne : k ≢ n = omega arith in
-    get_or-set_other (spread n f) n k (f n) 0 ne ∙ spread_beyond n f k o ∙ sym (spread_beyond (n + 1) f k (omega arith)))
-    (λ (m : k ≤ n).
-    let e : k ≡ n = omega arith in
-    rw e (get_or-set_same (spread n f) n (f n) 0 (omega arith) ∙ sym (spread_within (n + 1) f n (omega arith) (omega arith))))
-    (cases_lt n k))
-    (cases_lt k n))
-
--- a loop that rounds one channel after the other: one round more
-pub rounds_next : (round f : ℕ → ℕ) (k : ℕ) (kept : List ℕ) (value : ℕ) → k < channels → kept ≡ map round (spread k f) → value ≡ round (f k) → set kept k value ≡ map round (spread (k + 1) f)
-rounds_next round f k kept value inside inv new = rw (inv, new) (sym (map-set round (spread k f) k (f k)) ∙ ap (map round) (spread_more k f inside))

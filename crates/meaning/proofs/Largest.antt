@@ -1,5 +1,5 @@
 -- The largest of finitely many values. Assumes nothing.
-use Rattle.std.proofs.Common.{◌≡◌, ℕ, zero, suc, ◌+◌, ◌*◌, ◌<◌, ◌≤◌, max, sym, refl, ◌∙◌, ⊎_elim, add-zero, add-suc, suc-mul, zero-mul, add-one, arith}
+use Rattle.std.proofs.Common.{◌≡◌, ℕ, zero, suc, ◌+◌, ◌*◌, ◌<◌, ◌≤◌, max, refl, ◌∙◌, ⊎_elim, add-zero, add-suc, suc-mul, zero-mul, arith}
 use Rattle.std.proofs.lemmas.Bool.{cases_lt}
 use Rattle.meaning.specs.Sums.{largest_below}
 
@@ -12,19 +12,6 @@ below_largest (suc n) f i h =
     (λ (l : i < n). let b = below_largest n f i l in omega arith)
     (λ (l : n ≤ i). let e : i ≡ n = omega arith in rw e (omega arith))
     (cases_lt i n)
-
--- one value more
-pub largest_more : (n : ℕ) (f : ℕ → ℕ) → largest_below (n + 1) f ≡ max (largest_below n f) (f n)
-unfolding largest_below
-largest_more n f = rw (add-one n)
-
--- a loop that keeps the largest value: one round more
-pub largest_next : (n : ℕ) (f : ℕ → ℕ) (kept value next : ℕ) → next ≡ max kept value → kept ≡ largest_below n f → value ≡ f n → next ≡ largest_below (n + 1) f
-largest_next n f kept value next is inv new = is ∙ rw (inv, new) (sym (largest_more n f))
-
-pub largest_none : (f : ℕ → ℕ) → largest_below 0 f ≡ 0
-unfolding largest_below
-largest_none f = refl
 
 -- equal values below the bound
 pub largest_same : (n : ℕ) (f g : ℕ → ℕ) → ((i : ℕ) → i < n → f i ≡ g i) → largest_below n f ≡ largest_below n g
@@ -46,3 +33,9 @@ pub largest_blocks : (n k : ℕ) (f : ℕ → ℕ) → largest_below (n * k) f �
 unfolding largest_below
 largest_blocks zero k f = rw (zero-mul k) refl
 largest_blocks (suc n) k f = rw (suc-mul n k) (let e = largest_blocks n k f in largest_split (n * k) k f ∙ rw e refl)
+
+-- values within m
+pub largest_limit : (n : ℕ) (f : ℕ → ℕ) (m : ℕ) → ((i : ℕ) → f i ≤ m) → largest_below n f ≤ m
+unfolding largest_below
+largest_limit zero f m h = omega arith
+largest_limit (suc n) f m h = let e = largest_limit n f m h in let l = h n in omega arith

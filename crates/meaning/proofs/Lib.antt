@@ -12,3 +12,5 @@ pub mod LatticeLaws
 pub mod Worked
 pub mod RowSums
 pub mod MatrixLaws
+pub mod Listed
+pub mod Filled

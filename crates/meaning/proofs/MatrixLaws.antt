@@ -1,7 +1,6 @@
 -- A matrix keeps the laws of a stage, whatever its coefficients are. Assumes nothing.
-use Rattle.std.proofs.Common.{◌≡◌, ℕ, zero, suc, ◌+◌, ◌-◌, ◌*◌, ◌/◌, ◌%◌, ◌<◌, ◌≤◌, min, true, false, ◌&&◌, eqb, List, [], ◌∷◌, length, get_or, drop, ℤ, pos, negsuc, nat_abs, refl, ap, ◌∙◌, ⊎_elim, mul-le-mul_right, mul-le-mul_left, mul-pos, arith}
+use Rattle.std.proofs.Common.{◌≡◌, ℕ, zero, suc, ◌+◌, ◌-◌, ◌*◌, ◌/◌, ◌%◌, ◌<◌, ◌≤◌, min, true, false, eqb, List, [], ◌∷◌, get_or, ℤ, pos, negsuc, nat_abs, refl, ap, ◌∙◌, ⊎_elim, mul-le-mul_right, mul-le-mul_left, mul-pos, arith}
 use native.Mathlib.Nat.{mul-sub}
-use Rattle.std.proofs.lemmas.List.{at_drop_more}
 use Rattle.std.proofs.lemmas.Bool.{and_parts, eqb-true, cases_Bool, cases_lt, cond-true, cond-false, cond_both}
 use Rattle.meaning.specs.declared.Channels.TheVariants.{Three}
 use Rattle.meaning.specs.Colours.{max_count, grains, full_range, half_count, at, num, Colour, Exact, Valid, whole, scale, rounded, nearest, spread}
@@ -184,7 +183,3 @@ matrix_lawful es = rounding_lawful Three Three (matrix_exact es) (steepness_of_m
 pub matrix_answer : (es : List ℤ) (c : List ℕ) → (matrix es).answer c ≡ rounded (row_value es (whole c) 0) grains ∷ rounded (row_value es (whole c) 1) grains ∷ rounded (row_value es (whole c) 2) grains ∷ 0 ∷ []
 unfolding spread
 matrix_answer es c = refl
-
--- whether what is left from coefficient i on is whole
-pub whole_more : (es : List ℤ) (i : ℕ) → i < length es → all_whole (drop i es) ≡ (eqb (nat_abs (get_or es i (pos 0)) % grains) 0 && all_whole (drop (i + 1) es))
-whole_more es i h = at_drop_more all_whole es i (pos 0) h

@@ -1,5 +1,6 @@
 -- A 3×3 matrix: signed coefficients in 65,536ths, stored by rows.
-use Rattle.std.specs.Prelude.{◌≡◌, ℕ, suc, ◌+◌, ◌-◌, ◌*◌, ◌%◌, min, Bool, true, cond, ◌&&◌, List, [], ◌∷◌, ℤ, pos, negsuc, ◌+ℤ◌, ◌*ℤ◌, ◌==◌, slice_index_or, unsigned_abs}
+use Rattle.std.specs.Prelude.{◌≡◌, ℕ, suc, ◌+◌, ◌-◌, ◌*◌, ◌%◌, min, Bool, cond, List, ℤ, pos, negsuc, ◌+ℤ◌, ◌*ℤ◌, ◌==◌, slice_index_or, unsigned_abs}
+use Rattle.std.specs.List.{list_all}
 use Rattle.meaning.specs.declared.Channels.TheVariants.{Three}
 use Rattle.meaning.specs.Colours.{max_count, grains, half_count, at, Exact, spread}
 use Rattle.meaning.specs.Sums.{largest_below}
@@ -46,10 +47,13 @@ row_sum es j = unsigned_abs (coefficient es j 0) + unsigned_abs (coefficient es 
 abbrev pub steepness_of_matrix : List ℤ → ℕ
 steepness_of_matrix es = min unclaimed (largest_below 3 (row_sum es))
 
--- all coefficients are multiples of 65,536
+-- a coefficient is a multiple of 65,536
+abbrev pub is_whole_number : ℤ → Bool
+is_whole_number e = unsigned_abs e % grains == 0
+
+-- all coefficients are
 abbrev pub all_whole : List ℤ → Bool
-all_whole [] = true
-all_whole (e ∷ es) = unsigned_abs e % grains == 0 && all_whole es
+all_whole es = list_all is_whole_number es
 
 -- no error where all coefficients are whole, else half a count
 abbrev pub error_of_matrix : List ℤ → ℕ

@@ -1,17 +1,21 @@
 // What stages mean. The definitions and laws stand in specs/ and their proofs in proofs/; the functions
-// here work out the figures that are quoted for a stage, and their contracts name the theorems.
+// here work out the figures that are quoted for a stage, and their contracts name the theorems. A cast narrows what is
+// proved to fit; `try_from` would ask for an answer to a failure that there is not.
 #![tactic(auto)]
 
-ghost use Rattle.std.specs.Prelude.{◌≡◌, ◌*◌, if◌then◌else◌};
+ghost use Rattle.std.specs.Prelude.{◌≡◌, ◌*◌, ◌==◌, None, Some, if◌then◌else◌};
 ghost use Rattle.meaning.specs.Colours.{ceiling, half_count, number};
 ghost use Rattle.meaning.specs.Curves.{CurvesKeepTheLaws, steepness_of_curve};
 ghost use Rattle.meaning.specs.Lattices.{LatticesKeepTheLaws};
 ghost use Rattle.meaning.specs.Matrices.{MatricesKeepTheLaws, RowsAreSignedSums};
-ghost use Rattle.meaning.specs.Stages.{EqualInEqualOut, JoiningKeepsTheLaws, error_of_joined, steepness_of_joined};
+ghost use Rattle.meaning.specs.Stages.{EqualInEqualOut, JoiningKeepsTheLaws, error_of_joined, steepness_of_joined, unclaimed};
 ghost use Rattle.meaning.specs.WorkedFigures.{WorkedFigures, cube_figures, fading_figures, figures};
 
 // The channels of a colour.
 pub const CHANNELS: usize = 4;
+
+// The largest count of a channel.
+pub const MAX_COUNT: u16 = 65_535;
 
 // A grain is one 65,536th of a count.
 pub const GRAINS: u32 = 65_536;
@@ -81,6 +85,13 @@ fn figures_hold()
     ensures { WorkedFigures }
 {}
 
+// A steepness that claims something; the one that stands for no claim is none.
+fn claimed(steepness: u32) -> Option<u32>
+    ensures { result ≡ (if steepness == unclaimed then None else Some steepness) }
+{
+    (steepness != UNCLAIMED).then_some(steepness)
+}
+
 // The steepness of two stages joined. Joined so, stages keep the laws; and equal exact colours have equal
 // results in every stage that keeps them.
 pub fn joined_steepness(first: u32, second: u32) -> u32
@@ -90,11 +101,13 @@ pub fn joined_steepness(first: u32, second: u32) -> u32
 {
     joining_keeps_the_laws();
     equal_in_equal_out();
-    if first == UNCLAIMED || second == UNCLAIMED {
+    let (Some(first), Some(second)) = (claimed(first), claimed(second)) else {
         return UNCLAIMED;
-    }
-    let product = first as u64 * second as u64;
-    ((product + 65_535) / 65_536).min(UNCLAIMED as u64) as u32
+    };
+    let product = u64::from(first) * u64::from(second);
+    product
+        .div_ceil(u64::from(GRAINS))
+        .min(u64::from(UNCLAIMED)) as u32
 }
 
 // The error of two stages joined: the second's steepness carries the first's error on, and the second's
@@ -102,26 +115,15 @@ pub fn joined_steepness(first: u32, second: u32) -> u32
 pub fn joined_error(steepness: u32, first: u32, second: u32) -> u32
     ensures { result ≡ error_of_joined steepness first second }
 {
-    if steepness == UNCLAIMED {
+    let Some(steepness) = claimed(steepness) else {
         return FULL_RANGE;
-    }
-    let carried = (steepness as u64 * first as u64 + 65_535) / 65_536;
-    (carried + second as u64).min(FULL_RANGE as u64) as u32
+    };
+    let carried = (u64::from(steepness) * u64::from(first)).div_ceil(u64::from(GRAINS));
+    (carried + u64::from(second)).min(u64::from(FULL_RANGE)) as u32
 }
 
-// The steepness of curves with `length` entries a table, whose neighbours differ by at most `step`
-// counts. With it, curves keep the laws.
-pub fn curve_steepness(length: u16, step: u16) -> u32
-    ensures value { result ≡ steepness_of_curve length step }
-    ensures law { CurvesKeepTheLaws }
-{
-    curves_keep_the_laws();
-    let rise = 65_536 * length.saturating_sub(1) as u64 * step as u64;
-    ((rise + 65_534) / 65_535).min(UNCLAIMED as u64) as u32
-}
-
-// The same of tables with `points` points a channel, where one step in every channel at once moves the value by at most
-// `step` counts, of which there may be more than a count holds. With it, curves and lattices keep the laws.
+// The steepness of tables with `points` points along a channel, where one step in every channel at once moves the
+// value by at most `step` counts. With it, curves and lattices keep the laws.
 pub fn table_steepness(points: u16, step: u32) -> u32
     ensures value { result ≡ steepness_of_curve points step }
     ensures curves { CurvesKeepTheLaws }
@@ -129,12 +131,13 @@ pub fn table_steepness(points: u16, step: u32) -> u32
 {
     curves_keep_the_laws();
     lattices_keep_the_laws();
-    let total = 65_536 * points.saturating_sub(1) as u64 * step as u64;
-    ((total + 65_534) / 65_535).min(UNCLAIMED as u64) as u32
+    let rise = u64::from(GRAINS) * u64::from(points.saturating_sub(1)) * u64::from(step);
+    rise.div_ceil(u64::from(MAX_COUNT))
+        .min(u64::from(UNCLAIMED)) as u32
 }
 
 // The error of a matrix: none where all its coefficients are whole, else half a count. With it, matrices
-// keep the laws; and each row's value is its signed sum, held to the range.
+// keep the laws; and each row's value is its signed sum, held to the range. A plain `bool`, since nothing stands beside it.
 pub fn matrix_error(whole: bool) -> u32
     ensures value { result ≡ (if whole then 0 else half_count) }
     ensures law { MatricesKeepTheLaws }
@@ -150,33 +153,32 @@ pub fn matrix_error(whole: bool) -> u32
 pub fn hundred_thousandths(grains: u32) -> u64
     ensures { result ≡ ceiling (grains * 100000) 65536 }
 {
-    (grains as u64 * 100_000 + 65_535) / 65_536
+    (u64::from(grains) * 100_000).div_ceil(u64::from(GRAINS))
 }
 
-// The worked figures of curves, matrices and joining: two answers of a bent curve and its steepness, an answer
-// rounded upward and one held to 0 of a matrix, and an error carried through the curve.
-pub fn worked_figures() -> [u32; 6]
-    ensures hold { WorkedFigures }
-    ensures told { result ≡ figures }
-{
-    figures_hold();
-    [1_000, 1_001, 129_072, 3_001, 0, 97_304]
+// The worked figures, stage by stage.
+#[derive(Clone, Copy, PartialEq, Eq, Debug)]
+pub struct Figures {
+    // Two answers of a bent curve and its steepness, an answer rounded upward and one held to 0 of a matrix, and an
+    // error carried through the curve.
+    pub curves: [u32; 6],
+    // Three answers of a lattice of three channels, and its steepness.
+    pub cube: [u32; 4],
+    // One answer of a lattice of four channels.
+    pub fading_cube: [u32; 1],
 }
 
-// The worked figures of a lattice of three channels: three answers and its steepness.
-pub fn worked_cube_figures() -> [u32; 4]
+// The worked figures, which hold of the definitions.
+pub fn worked_figures() -> Figures
     ensures hold { WorkedFigures }
-    ensures told { result ≡ cube_figures }
+    ensures told { result.curves ≡ figures }
+    ensures cube { result.cube ≡ cube_figures }
+    ensures fading { result.fading_cube ≡ fading_figures }
 {
     figures_hold();
-    [15_200, 13_400, 36_000, 166_003]
-}
-
-// The worked figure of a lattice of four channels: one answer.
-pub fn worked_fading_figures() -> [u32; 1]
-    ensures hold { WorkedFigures }
-    ensures told { result ≡ fading_figures }
-{
-    figures_hold();
-    [18_000]
+    Figures {
+        curves: [1_000, 1_001, 129_072, 3_001, 0, 97_304],
+        cube: [15_200, 13_400, 36_000, 166_003],
+        fading_cube: [18_000],
+    }
 }

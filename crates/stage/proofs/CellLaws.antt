@@ -1,5 +1,5 @@
 -- The samples of a colour's cell are the nodes that the lattice's definition names. Assumes nothing.
-use Rattle.std.proofs.Common.{◌≡◌, ℕ, ◌+◌, ◌-◌, ◌*◌, ◌/◌, ◌^◌, ◌<◌, ◌≤◌, List, [], ◌∷◌, refl, ap, ◌∙◌, le_trans, mul-le-mul, zero-add, zero-mul, arith}
+use Rattle.std.proofs.Common.{◌≡◌, ℕ, ◌+◌, ◌-◌, ◌*◌, ◌/◌, List, [], ◌∷◌, refl, ap, ◌∙◌, zero-add, zero-mul, arith}
 use mathlib.Core.Path.{fun_ext}
 use Rattle.meaning.specs.declared.Channels.{Channels}
 use Rattle.meaning.specs.declared.Channels.TheVariants.{One, Three, Four}
@@ -8,9 +8,9 @@ use Rattle.meaning.specs.Lattices.{numbered, node, node_samples, pair_samples, l
 use Rattle.meaning.specs.Curves.{entry}
 use Rattle.meaning.proofs.Sampling.{sum_same}
 use Rattle.stage.specs.declared.legs.Leg.{Leg}
-use Rattle.stage.specs.Lattices.{cell, cell_sum, cell_exact}
-use Rattle.stage.specs.Legs.{idle, leg, reach_all, sorted, Small, Sorted}
-use Rattle.stage.proofs.LegLaws.{leg_reach, leg_small, idle_small, sorted_reach, sorted_falls}
+use Rattle.stage.specs.Lattices.{cell, cell_sum, cell_terms, cell_exact}
+use Rattle.stage.specs.Legs.{idle, leg, reach_all, sorted}
+use Rattle.stage.proofs.LegLaws.{leg_reach, sorted_reach}
 
 -- ---- places of nodes
 
@@ -40,7 +40,7 @@ module _ (g o : ℕ) (c : List ℕ) where
       ∙ rw (leg_reach (at c a) (g - 1) (o * g * g) s, leg_reach (at c b) (g - 1) (o * g) s, leg_reach (at c d) (g - 1) o s) refl
 
   -- what the samples of the cell sum up to is what the definition sums up
-  cell_samples : (i : Channels) (counts : List ℕ) (j : ℕ) → cell_sum i (entry counts) (cell i o g c) j ≡ lattice_sum i (node g o counts j) 65535 (λ k. at c k * (g - 1))
+  cell_samples : (i : Channels) (counts : List ℕ) (j : ℕ) → cell_sum (entry counts) (cell i o g c) j ≡ lattice_sum i (node g o counts j) 65535 (λ k. at c k * (g - 1))
   unfolding node_samples pair_samples along index
   cell_samples One counts j =
       sum_same 65535 _ _ (λ s _.
@@ -52,31 +52,14 @@ module _ (g o : ℕ) (c : List ℕ) where
       sum_same 65535 _ _ (λ u _. sum_same 65535 _ _ (λ s _.
       ap (entry counts) (rw (leg_reach (at c 0) (g - 1) (o * g * g * g) u, three_reach 1 2 3 s) (four_places g o j (index 0 u) (index 1 s) (index 2 s) (index 3 s)))))
 
-  -- the legs are sorted, and their places small
-  pub cell_fits : (i : Channels) → o ≤ 4 → g ≤ 255 → ((k : ℕ) → at c k < 65536) → Sorted (cell i o g c).legs × Small (cell i o g c).first
-  unfolding along
-  cell_fits i ho hg hc = fits i
-    where
-      small : (k stride : ℕ) → stride ≤ 2 ^ 32 → Small (along k stride)
-      small k stride h = leg_small (at c k) (g - 1) stride (let l = hc k in omega arith) (omega arith) h
-
-      near : o ≤ 2 ^ 32
-      near = omega arith
-
-      middle : o * g ≤ 2 ^ 32
-      middle = le_trans (mul-le-mul ho hg) (omega arith)
-
-      far : o * g * g ≤ 2 ^ 32
-      far = le_trans (mul-le-mul (mul-le-mul ho hg) hg) (omega arith)
-
-      first : o * g * g * g ≤ 2 ^ 32
-      first = le_trans (mul-le-mul (mul-le-mul (mul-le-mul ho hg) hg) hg) (omega arith)
-
-      fits : (i : Channels) → Sorted (cell i o g c).legs × Small (cell i o g c).first
-      fits One = (sorted_falls (along 0 o) idle idle (small 0 o near) idle_small idle_small, idle_small)
-      fits Three = (sorted_falls (along 0 (o * g * g)) (along 1 (o * g)) (along 2 o) (small 0 _ far) (small 1 _ middle) (small 2 _ near), idle_small)
-      fits Four = (sorted_falls (along 1 (o * g * g)) (along 2 (o * g)) (along 3 o) (small 1 _ far) (small 2 _ middle) (small 3 _ near), small 0 _ first)
+  -- and there are as many
+  many_terms : (i : Channels) → cell_terms (cell i o g c) ≡ lattice_terms i 65535
+  many_terms One = refl
+  many_terms Three = refl
+  many_terms Four = refl
 
 -- the cell's outputs, rounded, are the lattice's answer
-pub cell_answer : (i o : Channels) (g : ℕ) (counts c : List ℕ) → nearest (cell_exact i (number o) (entry counts) (cell i (number o) g c)) ≡ (lattice i o g counts).answer c
-cell_answer i o g counts c = ap (λ f. nearest (record { nums = spread (number o) f; den = lattice_terms i 65535 })) (fun_ext (cell_samples g (number o) c i counts))
+pub cell_answer : (i o : Channels) (g : ℕ) (counts c : List ℕ) → nearest (cell_exact (number o) (entry counts) (cell i (number o) g c)) ≡ (lattice i o g counts).answer c
+cell_answer i o g counts c =
+    ap (λ d. nearest (record { nums = spread (number o) (cell_sum (entry counts) (cell i (number o) g c)); den = d })) (many_terms g (number o) c i)
+    ∙ ap (λ f. nearest (record { nums = spread (number o) f; den = lattice_terms i 65535 })) (fun_ext (cell_samples g (number o) c i counts))

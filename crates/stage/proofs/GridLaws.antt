@@ -1,10 +1,10 @@
 -- Blocks of nodes: how many there are, and the differences along a channel block by block. Assumes nothing.
-use Rattle.std.proofs.Common.{◌≡◌, ℕ, ◌+◌, ◌-◌, ◌*◌, ◌^◌, ◌<◌, ◌≤◌, refl, ◌∙◌, le_trans, mul-le-mul, arith}
+use Rattle.std.proofs.Common.{◌≡◌, ℕ, ◌+◌, ◌-◌, ◌*◌, ◌^◌, ◌<◌, ◌≤◌, refl, ◌∙◌, le_trans, arith}
 use native.Mathlib.Nat.{pow-le-pow_left, pow-le-pow_right}
 use Rattle.meaning.specs.Distances.{gap}
 use Rattle.meaning.specs.Sums.{largest_below}
 use Rattle.meaning.specs.Lattices.{largest_along}
-use Rattle.meaning.proofs.Largest.{largest_same, largest_blocks}
+use Rattle.meaning.proofs.Largest.{largest_same, largest_blocks, largest_limit}
 
 -- up to three channels have at most 255 · 255 · 255 nodes
 pub nodes_limit : (g n : ℕ) → g ≤ 255 → n < 4 → g ^ n ≤ 16777216
@@ -22,6 +22,10 @@ along_blocks g before behind t =
     let next : (a * g + x) * s + b + s ≡ (a * g + (x + 1)) * s + b = omega arith in
     rw (here, next) refl)))
 
--- blocks start well within the machine's numbers
-pub block_limit : (a g behind : ℕ) → a ≤ 16777216 → g ≤ 255 → behind ≤ 16777216 → a * (g * behind) ≤ 72057594037927936
-block_limit a g behind ha hg hb = le_trans (mul-le-mul ha (mul-le-mul hg hb)) (omega arith)
+-- no difference of counts is larger than a count
+pub along_limit : (g before behind : ℕ) (t : ℕ → ℕ) → ((n : ℕ) → t n ≤ 65535) → largest_along g before behind t ≤ 65535
+along_limit g before behind t h =
+    largest_limit (g ^ before) _ 65535 (λ a. largest_limit (g - 1) _ 65535 (λ x. largest_limit (g ^ behind) _ 65535 (λ b.
+    let one = h ((a * g + x) * g ^ behind + b) in
+    let two = h ((a * g + (x + 1)) * g ^ behind + b) in
+    omega arith)))

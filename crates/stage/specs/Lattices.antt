@@ -1,45 +1,45 @@
 -- When a lattice is made, and the legs of a colour in it.
-use Rattle.std.specs.Prelude.{ℕ, ◌+◌, ◌-◌, ◌*◌, cond, List, Some, None, Option, nat_le}
+use Rattle.std.specs.Prelude.{ℕ, ◌+◌, ◌-◌, ◌*◌, cond, List, [], ◌∷◌, Some, None, Option, nat_le}
 use Rattle.meaning.specs.declared.Channels.{Channels}
 use Rattle.meaning.specs.declared.Channels.TheVariants.{One, Three, Four}
 use Rattle.meaning.specs.Colours.{number, at, Exact, spread}
 use Rattle.meaning.specs.Distances.{gap}
-use Rattle.meaning.specs.Lattices.{lattice_terms, output}
+use Rattle.meaning.specs.Lattices.{output}
 use Rattle.meaning.specs.Sums.{sum_below}
 use Rattle.stage.specs.declared.lattice.Lattice.{Lattice}
 use Rattle.stage.specs.declared.lattice.Cell.{Cell}
+use Rattle.stage.specs.declared.lattice.Cell.TheVariants.{Alone, Paired}
 use Rattle.stage.specs.Legs.{idle, leg, sorted, reach, reach_all}
 
 -- a lattice has 2 grid points or more in each channel
 abbrev pub lattice_over : {E : Type 0} → Channels → Channels → ℕ → E → Option (Lattice E)
 lattice_over i o g table = cond (nat_le 2 g) (Some (record { ins = i; outs = o; grid = g; table = table })) None
 
--- the entries that a step passes over in the last three channels, with o outputs a node and g grid points a channel:
+-- the entries that a step passes over in each of four channels, with o outputs a node and g grid points a channel:
 -- one node in the last channel, and g times as many in each channel before it
-abbrev pub strides : ℕ → ℕ → ℕ × ℕ × ℕ
-strides o g = (o * g * g, o * g, o)
+abbrev pub strides : ℕ → ℕ → List ℕ
+strides o g = (o * g * g * g) ∷ (o * g * g) ∷ (o * g) ∷ o ∷ []
 
 -- the legs of a colour
 abbrev pub cell : Channels → ℕ → ℕ → List ℕ → Cell
-cell One o g c = record { first = idle; legs = sorted (leg (at c 0) (g - 1) o) idle idle }
-cell Three o g c = record {
-  first = idle;
-  legs = sorted (leg (at c 0) (g - 1) (o * g * g)) (leg (at c 1) (g - 1) (o * g)) (leg (at c 2) (g - 1) o);
-}
-cell Four o g c = record {
-  first = leg (at c 0) (g - 1) (o * g * g * g);
-  legs = sorted (leg (at c 1) (g - 1) (o * g * g)) (leg (at c 2) (g - 1) (o * g)) (leg (at c 3) (g - 1) o);
-}
+cell One o g c = Alone (sorted (leg (at c 0) (g - 1) o) idle idle)
+cell Three o g c = Alone (sorted (leg (at c 0) (g - 1) (o * g * g)) (leg (at c 1) (g - 1) (o * g)) (leg (at c 2) (g - 1) o))
+cell Four o g c =
+    Paired (leg (at c 0) (g - 1) (o * g * g * g)) (sorted (leg (at c 1) (g - 1) (o * g * g)) (leg (at c 2) (g - 1) (o * g)) (leg (at c 3) (g - 1) o))
 
 -- what the samples of a cell sum up to in a table f, with j added to each place
-abbrev pub cell_sum : Channels → (ℕ → ℕ) → Cell → ℕ → ℕ
-cell_sum One f t j = sum_below 65535 (λ s. f (j + reach_all t.legs s))
-cell_sum Three f t j = sum_below 65535 (λ s. f (j + reach_all t.legs s))
-cell_sum Four f t j = sum_below 65535 (λ u. sum_below 65535 (λ s. f (j + reach t.first u + reach_all t.legs s)))
+abbrev pub cell_sum : (ℕ → ℕ) → Cell → ℕ → ℕ
+cell_sum f (Alone t) j = sum_below 65535 (λ s. f (j + reach_all t s))
+cell_sum f (Paired l t) j = sum_below 65535 (λ u. sum_below 65535 (λ s. f (j + reach l u + reach_all t s)))
+
+-- how many samples, or pairs of them, these are
+abbrev pub cell_terms : Cell → ℕ
+cell_terms (Alone t) = 65535
+cell_terms (Paired l t) = 65535 * 65535
 
 -- the value that they give, with o outputs
-abbrev pub cell_exact : Channels → ℕ → (ℕ → ℕ) → Cell → Exact
-cell_exact i o f t = record { nums = spread o (cell_sum i f t); den = lattice_terms i 65535 }
+abbrev pub cell_exact : ℕ → (ℕ → ℕ) → Cell → Exact
+cell_exact o f t = record { nums = spread o (cell_sum f t); den = cell_terms t }
 
 -- output j of node n; `counts` is what the source of the entries means
 abbrev pub output_of_node : {E : Type 0} → (E → List ℕ) → Lattice E → ℕ → ℕ → ℕ

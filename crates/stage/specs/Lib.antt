@@ -1,4 +1,7 @@
 pub mod Entries
+pub mod Samples
 pub mod Curves
 pub mod Legs
 pub mod Lattices
+pub mod Chains
+pub mod ChainLaws

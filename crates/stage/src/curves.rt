@@ -1,15 +1,16 @@
 // Tone curves: one table of counts for each channel, with the answer interpolated between entries.
 ghost use Rattle.std.specs.Prelude.{◌≡◌, ◌-◌, ◌*◌, ◌<◌, ◌≤◌};
 ghost use Rattle.meaning.proofs.CurveLaws.{curves_lawful};
-ghost use Rattle.meaning.specs.Colours.{rounded};
-ghost use Rattle.meaning.specs.Curves.{curves, largest_curve_step};
+ghost use Rattle.meaning.specs.Colours.{number, rounded};
+ghost use Rattle.meaning.specs.Curves.{curves};
 ghost use Rattle.meaning.specs.Sums.{largest_below, samples};
 ghost use Rattle.stage.specs.Curves.{curves_over, curve_entry, curve_step};
 
 use crate::entries::Entries;
+use crate::folding::{colour_of, largest};
 use crate::traits::{Colour, Stage};
-use crate::weighing::blend;
-use meaning::{CHANNELS, Channels, HALF_COUNT, curve_steepness};
+use crate::weighing::{SAMPLES, blend, nearest};
+use meaning::{Channels, HALF_COUNT, table_steepness};
 
 // Curves over 1, 3 or 4 channels. The tables of `length` entries lie one after the other.
 #[derive(Clone, Copy)]
@@ -19,12 +20,12 @@ pub struct Curves<E> {
     table: E,
 }
 
-// A sum over 65,535 as the nearest count, halves upward.
-pub(crate) fn nearest(sum: u32) -> u16
-    requires { sum ≤ 65535 * 65535 }
-    ensures { result ≡ rounded sum 65535 }
-{
-    ((sum + 32_767) / 65_535) as u16
+// The curve of one channel.
+#[derive(Drop)]
+struct Curve<'a, E> {
+    curves: &'a Curves<E>,
+    channel: usize,
+    ghost inside: { channel < 4 },
 }
 
 impl<E: Entries> Curves<E> {
@@ -34,66 +35,77 @@ impl<E: Entries> Curves<E> {
         E: Drop,
         ensures { result ≡ curves_over channels length table }
     {
-        if length < 2 || length > 4096 {
-            return None;
-        }
-        Some(Curves {
+        (2..=4096).contains(&length).then_some(Curves {
             channels,
             length,
             table,
         })
     }
 
-    // The entry at `index` of a channel's table.
-    fn entry(&self, channel: usize, index: usize) -> u16
-        requires { (channel < 4) × (index ≤ 65536) }
-        ensures { result ≡ curve_entry E.Entries.counts self.now channel index }
-    {
-        self.table.entry(channel * self.length as usize + index)
-    }
-
-    // One channel's answer: the samples of its table at the count's position, rounded once.
-    fn value(&self, channel: usize, count: u16) -> u16
+    fn curve(&self, channel: usize) -> Curve<'_, E>
         requires { channel < 4 }
-        ensures { result ≡ rounded (samples (curve_entry E.Entries.counts self.now channel) 65535 (count * (self.now.length - 1))) 65535 }
+        ensures curves { result.curves.now ≡ self.now }
+        ensures channel { result.channel ≡ channel }
     {
-        let position = count as u32 * self.length.saturating_sub(1) as u32;
-        let index = (position / 65_535) as usize;
-        let low = self.entry(channel, index);
-        let high = self.entry(channel, index + 1);
-        nearest(blend(low, high, position % 65_535))
-    }
-
-    // The difference of an entry and the next one.
-    fn step(&self, channel: usize, index: usize) -> u16
-        requires { (channel < 4) × (index < 65536) }
-        ensures { result ≡ curve_step E.Entries.counts self.now channel index }
-    {
-        self.entry(channel, index)
-            .abs_diff(self.entry(channel, index + 1))
-    }
-
-    // The largest difference of neighbours in one channel's table.
-    fn table_step(&self, channel: usize) -> u16
-        requires { channel < 4 }
-        ensures { result ≡ largest_below (self.now.length - 1) (curve_step E.Entries.counts self.now channel) }
-    {
-        let mut largest: u16 = 0;
-        for i in 0..self.length.saturating_sub(1) as usize {
-            largest = largest.max(self.step(channel, i));
+        Curve {
+            curves: self,
+            channel,
         }
-        largest
     }
 
     // The largest difference of neighbours in any channel's table.
-    fn largest_step(&self) -> u16
-        ensures { result ≡ largest_curve_step self.now.channels self.now.length (E.Entries.counts self.now.table) }
+    fn largest_step(&self) -> u32
+        ensures { result ≡ largest_below (number self.now.channels) (λ k. largest_below (self.now.length - 1) (curve_step E.Entries.counts self.now k)) }
     {
-        let mut largest: u16 = 0;
-        for channel in 0..self.channels.number() {
-            largest = largest.max(self.table_step(channel));
-        }
-        largest
+        let channels = self.channels.number();
+        largest(channels, |channel| self.curve(channel).largest_step())
+    }
+}
+
+impl<E: Entries> Curve<'_, E> {
+    // The entry at `index` of the table.
+    fn entry(&self, index: usize) -> u16
+        requires { index ≤ 65536 }
+        ensures { result ≡ curve_entry E.Entries.counts self.now.curves.now self.now.channel index }
+    {
+        let start = self.channel * usize::from(self.curves.length);
+        self.curves.table.entry(start + index)
+    }
+
+    // The samples of the table at a position, added up.
+    fn samples(&self, position: u32) -> u64
+        requires { position ≤ 65535 * 65535 }
+        ensures value { result ≡ samples (curve_entry E.Entries.counts self.now.curves.now self.now.channel) 65535 position }
+        ensures limit { result ≤ 65535 * 65535 }
+    {
+        let index = (position / SAMPLES) as usize;
+        let low = u32::from(self.entry(index));
+        let high = u32::from(self.entry(index + 1));
+        blend(low, high, (position % SAMPLES) as u16)
+    }
+
+    // The answer: the samples at the count's position, rounded once.
+    fn value(&self, count: u16) -> u16
+        ensures { result ≡ rounded (samples (curve_entry E.Entries.counts self.now.curves.now self.now.channel) 65535 (count * (self.now.curves.now.length - 1))) 65535 }
+    {
+        let steps = u32::from(self.curves.length.saturating_sub(1));
+        nearest::<SAMPLES>(self.samples(u32::from(count) * steps))
+    }
+
+    // The difference of an entry and the next one.
+    fn step(&self, index: usize) -> u32
+        requires { index < 65536 }
+        ensures { result ≡ curve_step E.Entries.counts self.now.curves.now self.now.channel index }
+    {
+        u32::from(self.entry(index).abs_diff(self.entry(index + 1)))
+    }
+
+    // The largest difference of neighbours in the table.
+    fn largest_step(&self) -> u32
+        ensures { result ≡ largest_below (self.now.curves.now.length - 1) (curve_step E.Entries.counts self.now.curves.now self.now.channel) }
+    {
+        let steps = usize::from(self.curves.length.saturating_sub(1));
+        largest(steps, |index| self.step(index))
     }
 }
 
@@ -111,7 +123,7 @@ impl<E: Entries> Stage for Curves<E> {
     }
 
     fn steepness(&self) -> u32 {
-        curve_steepness(self.length, self.largest_step())
+        table_steepness(self.length, self.largest_step())
     }
 
     fn error(&self) -> u32 {
@@ -119,10 +131,6 @@ impl<E: Entries> Stage for Curves<E> {
     }
 
     fn answer(&self, colour: &Colour) -> Colour {
-        let mut out = [0; CHANNELS];
-        for k in 0..self.channels.number() {
-            out[k] = self.value(k, colour[k]);
-        }
-        out
+        colour_of(self.channels.number(), |k| self.curve(k).value(colour[k]))
     }
 }

@@ -1,44 +1,64 @@
 // Legs: the step that samples take along one channel of a lattice, from a node to its neighbour, and the three
 // steps that lead from corner to corner of a tetrahedron.
-ghost use Rattle.std.specs.Prelude.{◌≡◌, ◌^◌, ◌≤◌};
-ghost use Rattle.stage.specs.Legs.{leg, ordered, sorted};
+ghost use Rattle.std.specs.Prelude.{◌≡◌, ◌+◌, ◌-◌, ◌*◌, ◌^◌, ◌≤◌};
+ghost use Rattle.meaning.specs.Colours.{at};
+ghost use Rattle.stage.specs.Legs.{leg, start_of, ordered, Three, Falling, sorted, corners_from, weighed};
 
-// Along one channel, the place of the node below in the table, how far away its neighbour lies, and how many of
-// 65,535 samples step over to it.
+use crate::weighing::SAMPLES;
+use meaning::MAX_COUNT;
+use std::marker::Model;
+
+// Along one channel, the index of the node below, how many entries away its neighbour lies, and how many of the
+// samples step over to it.
 #[derive(Clone, Copy)]
 pub(crate) struct Leg {
-    pub start: usize,
-    pub stride: usize,
-    pub rest: u32,
+    pub index: u8,
+    pub stride: u32,
+    pub rest: u16,
 }
 
 // Three legs, the one that most samples take first.
-#[derive(Clone, Copy)]
+#[derive(Drop)]
 pub(crate) struct Legs {
-    pub most: Leg,
-    pub middle: Leg,
-    pub least: Leg,
+    most: Leg,
+    middle: Leg,
+    least: Leg,
+}
+
+impl Model for Legs {
+    ghost Value = { Three };
+
+    ghost view = { λ t. record { most = t.most; middle = t.middle; least = t.least } };
+
+    ghost invariant = { λ t. Falling (record { most = t.most; middle = t.middle; least = t.least }) };
 }
 
 // The leg of a channel that a lattice does not have.
 pub(crate) const IDLE: Leg = Leg {
-    start: 0,
+    index: 0,
     stride: 0,
     rest: 0,
 };
 
 impl Leg {
     // The leg of a count in a channel of `steps` steps, with neighbours `stride` entries apart.
-    pub(crate) fn new(count: u16, steps: u8, stride: usize) -> Leg
-        requires { stride ≤ 2 ^ 32 }
+    pub(crate) fn new(count: u16, steps: u8, stride: u32) -> Leg
         ensures { result ≡ leg count steps stride }
     {
-        let position = count as u32 * steps as u32;
+        let position = u32::from(count) * u32::from(steps);
         Leg {
-            start: (position / 65_535) as usize * stride,
+            index: (position / SAMPLES) as u8,
             stride,
-            rest: position % 65_535,
+            rest: (position % SAMPLES) as u16,
         }
+    }
+
+    // The entries that lie before the node below.
+    pub(crate) fn start(&self) -> usize
+        ensures value { result ≡ start_of self.now }
+        ensures limit { result ≤ 2 ^ 40 }
+    {
+        usize::from(self.index) * self.stride as usize
     }
 }
 
@@ -49,7 +69,16 @@ fn falling(a: Leg, b: Leg) -> (Leg, Leg)
     if a.rest < b.rest { (b, a) } else { (a, b) }
 }
 
+// What a number of samples add up to that all read one count.
+fn read_by(samples: u16, count: u16) -> u32
+    ensures value { result ≡ samples * count }
+    ensures limit { result ≤ samples * 65535 }
+{
+    u32::from(samples) * u32::from(count)
+}
+
 impl Legs {
+    // Compared three times: a pixel can't wait for a sort.
     pub(crate) fn sorted(a: Leg, b: Leg, c: Leg) -> Legs
         ensures { result ≡ sorted a b c }
     {
@@ -61,5 +90,30 @@ impl Legs {
             middle: b,
             least: c,
         }
+    }
+
+    // The places of the four corners, counted from `place`.
+    pub(crate) fn corners(&self, place: usize) -> [usize; 4]
+        requires { place ≤ 2 ^ 42 }
+        ensures places { result ≡ corners_from self.now place }
+        ensures order { Falling self.now }
+    {
+        let base = place + self.most.start() + self.middle.start() + self.least.start();
+        let second = base + self.most.stride as usize;
+        let third = second + self.middle.stride as usize;
+        [base, second, third, third + self.least.stride as usize]
+    }
+
+    // The counts at the corners, each weighed by the samples that read it.
+    pub(crate) fn weigh(&self, counts: [u16; 4]) -> u32
+        ensures value { result ≡ weighed self.now counts }
+        ensures limit { result ≤ 65535 * 65535 }
+    {
+        let [base, second, third, last] = counts;
+        let (most, middle, least) = (self.most.rest, self.middle.rest, self.least.rest);
+        read_by(MAX_COUNT - most, base)
+            + read_by(most - middle, second)
+            + read_by(middle - least, third)
+            + read_by(least, last)
     }
 }

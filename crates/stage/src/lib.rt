@@ -1,20 +1,26 @@
 // Stages: what a chain is made of. A stage turns a colour into a colour, and tells how far its answers
-// may lie from the exact map that it stands for.
+// may lie from the exact map that it stands for. A cast narrows what is proved to fit, or makes an index of a number, for
+// which there is no `From`.
 #![tactic(auto)]
 
+pub mod chain;
 pub mod curves;
 pub mod entries;
+mod folding;
 pub mod joined;
 pub mod lattice;
-mod lattice_steps;
 mod legs;
 pub mod matrix;
+mod planes;
+pub mod samples;
 pub mod traits;
 mod weighing;
 
+pub use chain::Chain;
 pub use curves::Curves;
-pub use entries::{Entries, NarrowBytes, NodeTable, WideBytes};
+pub use entries::{Entries, NarrowBytes, NodeTable, Table, WideBytes};
 pub use joined::Joined;
 pub use lattice::Lattice;
 pub use matrix::Matrix;
+pub use samples::Sample;
 pub use traits::{Colour, Stage};

@@ -10,4 +10,5 @@ returns c =
     let e = c.args.e in
     let a = c.args.a in
     let is = product_value e c.from.result c.from-2.result a c.ranges.e c.ranges.a.fits c.from.ensures c.from-2.ensures in
-    record { value = is; small = rw is (product_small e a c.ranges.e c.ranges.a.fits) }
+    let small = product_small e a c.ranges.e c.ranges.a.fits in
+    record { value = is; adds = rw is small.0; takes = rw is small.1 }
