@@ -235,8 +235,8 @@ impl Job {
             last_curves: None,
             rows: Vec::new(heap),
         };
-        for (line, words) in (1..usize::MAX).zip(text.lines()) {
-            job.take_line(heap, words)
+        for (line, text) in (1..).zip(text.lines()) {
+            job.take_line(heap, text)
                 .map_err(|reason| BadLine { line, reason })?;
         }
         Ok(job)

@@ -90,63 +90,74 @@ fn print_bound(rt: &HostRuntime, grains: u32) -> anyhow::Result<()> {
     Ok(())
 }
 
-fn run_row<P: Sampled, Q: Sampled>(
-    rt: &HostRuntime,
-    chain: &Chain<'_, Step<'_>>,
-    task: &RowTask,
-) -> anyhow::Result<()> {
-    let enters = task.enters;
-    let leaves = task.leaves;
-    println!(rt; "  row, {enters} to {leaves}:")?;
-    let entering: Vec<P> = match pixels(rt.alloc(), task.samples.as_slice()) {
-        Ok(row) => row,
-        Err(reason) => {
-            println!(rt; "  not run: {reason}")?;
-            return Ok(());
+// A row of a job, to be sent through the chain of the job's stages.
+#[derive(Clone, Copy)]
+struct RowRun<'a> {
+    rt: &'a HostRuntime,
+    chain: &'a Chain<'a, Step<'a>>,
+    task: &'a RowTask,
+}
+
+impl RowRun<'_> {
+    // The kinds are types, which no closure is generic over, so the two sides of a row are named one after the other.
+    fn run(self) -> anyhow::Result<()> {
+        match self.task.enters {
+            KindName::Gray8 => self.run_from::<Gray8>(),
+            KindName::Rgb8 => self.run_from::<Rgb8>(),
+            KindName::Cmyk8 => self.run_from::<Cmyk8>(),
+            KindName::Rgb16 => self.run_from::<Rgb16>(),
         }
-    };
-    let blank = Q::make(&[0; CHANNELS]);
-    let mut leaving = vec![in rt.alloc(); blank; entering.len()]?;
-    match row(chain, entering.as_slice(), leaving.as_mut_slice()) {
-        Err(refusal) => {
-            let number = refusal.number();
-            println!(rt; "  refused, {number}: {refusal}")?;
+    }
+
+    fn run_from<P: Sampled>(self) -> anyhow::Result<()> {
+        match self.task.leaves {
+            KindName::Gray8 => self.run_between::<P, Gray8>(),
+            KindName::Rgb8 => self.run_between::<P, Rgb8>(),
+            KindName::Cmyk8 => self.run_between::<P, Cmyk8>(),
+            KindName::Rgb16 => self.run_between::<P, Rgb16>(),
         }
-        Ok(bound) => {
-            for (p, q) in entering.iter().zip(leaving.iter()) {
-                print!(rt; "   ")?;
-                p.print(rt)?;
-                print!(rt; " ->")?;
-                q.print(rt)?;
-                println!(rt; "")?;
+    }
+
+    fn run_between<P: Sampled, Q: Sampled>(self) -> anyhow::Result<()> {
+        let RowRun { rt, chain, task } = self;
+        let enters = task.enters;
+        let leaves = task.leaves;
+        println!(rt; "  row, {enters} to {leaves}:")?;
+        let entering: Vec<P> = match pixels(rt.alloc(), task.samples.as_slice()) {
+            Ok(row) => row,
+            Err(reason) => {
+                println!(rt; "  not run: {reason}")?;
+                return Ok(());
             }
-            print_bound(rt, bound)?;
+        };
+        let blank = Q::make(&[0; CHANNELS]);
+        let mut leaving = vec![in rt.alloc(); blank; entering.len()]?;
+        match row(chain, entering.as_slice(), leaving.as_mut_slice()) {
+            Err(refusal) => {
+                let number = refusal.number();
+                println!(rt; "  refused, {number}: {refusal}")?;
+            }
+            Ok(bound) => print_row(rt, &entering, &leaving, bound)?,
         }
+        Ok(())
     }
-    Ok(())
 }
 
-// The kinds are types, which no closure is generic over, so the two sides of a row are named one after the other.
-fn run_from<P: Sampled>(
+// The pixels that entered beside those that left, and the bound.
+fn print_row<P: Sampled, Q: Sampled>(
     rt: &HostRuntime,
-    chain: &Chain<'_, Step<'_>>,
-    task: &RowTask,
+    entering: &[P],
+    leaving: &[Q],
+    bound: u32,
 ) -> anyhow::Result<()> {
-    match task.leaves {
-        KindName::Gray8 => run_row::<P, Gray8>(rt, chain, task),
-        KindName::Rgb8 => run_row::<P, Rgb8>(rt, chain, task),
-        KindName::Cmyk8 => run_row::<P, Cmyk8>(rt, chain, task),
-        KindName::Rgb16 => run_row::<P, Rgb16>(rt, chain, task),
+    for (p, q) in entering.iter().zip(leaving) {
+        print!(rt; "   ")?;
+        p.print(rt)?;
+        print!(rt; " ->")?;
+        q.print(rt)?;
+        println!(rt; "")?;
     }
-}
-
-fn run_task(rt: &HostRuntime, chain: &Chain<'_, Step<'_>>, task: &RowTask) -> anyhow::Result<()> {
-    match task.enters {
-        KindName::Gray8 => run_from::<Gray8>(rt, chain, task),
-        KindName::Rgb8 => run_from::<Rgb8>(rt, chain, task),
-        KindName::Cmyk8 => run_from::<Cmyk8>(rt, chain, task),
-        KindName::Rgb16 => run_from::<Rgb16>(rt, chain, task),
-    }
+    print_bound(rt, bound)
 }
 
 // What a stage tells of itself.
@@ -161,7 +172,8 @@ fn print_stage<S: Stage>(rt: &HostRuntime, name: &str, stage: &S) -> anyhow::Res
     Ok(())
 }
 
-// Curves over the tables of a job, or a sentence that says why there are none.
+// Curves over the tables of a job, or a sentence that says why there are none: `Curves::new` asks again what the reading
+// of the line has asked.
 fn curves_of(tables: &Tables) -> anyhow::Result<Step<'_>> {
     let table = Table(tables.entries.as_slice());
     let curves = Curves::new(tables.channels, tables.length, table).context(
@@ -212,7 +224,12 @@ pub(crate) fn run(rt: &HostRuntime, job: &Job) -> anyhow::Result<()> {
         print_stage(rt, "joined", &chain)?;
     }
     for task in job.rows.iter() {
-        run_task(rt, &chain, task)?;
+        RowRun {
+            rt,
+            chain: &chain,
+            task,
+        }
+        .run()?;
     }
     Ok(())
 }

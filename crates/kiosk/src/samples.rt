@@ -88,9 +88,8 @@ impl<S: Number> Sampled for Cmyk<S> {
 
 // A row of pixels from its samples, one pixel after the other.
 pub(crate) fn pixels<P: Sampled>(heap: Global, samples: &[u16]) -> Result<Vec<P>, Reason> {
-    let mut row = Vec::new(heap);
-    for part in samples.chunks(P::channels().number()) {
-        row.push(P::from_samples(part).ok_or(Reason::NotASample)?)?;
-    }
-    Ok(row)
+    samples
+        .chunks(P::channels().number())
+        .map(|part| P::from_samples(part).ok_or(Reason::NotASample))
+        .try_collect(heap)
 }

@@ -19,7 +19,7 @@ struct Figure {
 #[derive(Clone, Copy)]
 struct Measured<const N: usize>([Figure; N]);
 
-// The worked figures as the stages give them, in the order of the worked ones.
+// The figures of curves, matrices and joining, as the stages give them.
 fn measured_figures() -> Option<Measured<6>>
     ensures { option_map (λ shown. map (λ figure. figure.measured) shown.0) result ≡ Some figures }
 {
@@ -131,7 +131,7 @@ pub(crate) fn run(rt: &HostRuntime) -> anyhow::Result<()> {
     compare(rt, figures.into_iter().zip(worked_figures().curves))
 }
 
-// The figures of lattices. Another word than `run` prints first, and other figures: what they share is `compare`.
+// The figures of lattices. Kept beside `run`: it prints another heading and other figures.
 pub(crate) fn run_lattices(rt: &HostRuntime) -> anyhow::Result<()> {
     println!(rt; "selftest-lattices")?;
     let Measured(cube) = measured_cube().context("the lattice was refused")?;

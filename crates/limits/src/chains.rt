@@ -1,4 +1,5 @@
 // Chains of no stage, of one and of three.
+use crate::lattices::EIGHT;
 use meaning::Channels;
 use stage::{Chain, Curves, Joined, Lattice, NodeTable, Stage, Table};
 use std::test::Fail;
@@ -8,9 +9,6 @@ const NEGATIVE: [u16; 24] = [
     65_535, 65_535, 65_535, 65_535, 65_535, 0, 65_535, 0, 65_535, 65_535, 0, 0, 0, 65_535, 65_535,
     0, 65_535, 0, 0, 0, 65_535, 0, 0, 0,
 ];
-
-// One output at each corner of three channels.
-const EIGHT: [u16; 8] = [0, 1_000, 2_000, 3_000, 4_000, 5_000, 6_000, 60_000];
 
 #[test]
 fn a_chain_has_a_stage(rt: HostRuntime) {

@@ -4,7 +4,7 @@ use stage::{Curves, Joined, Lattice, Stage, Table, WideBytes};
 use std::test::Fail;
 
 // One output at each corner of three channels.
-const EIGHT: [u16; 8] = [0, 1_000, 2_000, 3_000, 4_000, 5_000, 6_000, 60_000];
+pub(crate) const EIGHT: [u16; 8] = [0, 1_000, 2_000, 3_000, 4_000, 5_000, 6_000, 60_000];
 
 // One output at each corner of four channels.
 const SIXTEEN: [u16; 16] = [0, 1, 2, 3, 4, 5, 6, 7, 8, 9, 10, 11, 12, 13, 14, 15];

@@ -1,4 +1,5 @@
 // The row call: a row of pixels through a stage, with the error bound of what it delivers.
+// Stage, entering and leaving row are the call's own parameters, and its parts take them as they come.
 ghost use Rattle.std.specs.Prelude.{◌≡◌, ◌+◌, min, length};
 ghost use Rattle.meaning.specs.Colours.{full_range};
 ghost use Rattle.link.specs.Refusals.{Accepted};

@@ -1,6 +1,6 @@
 // What stages mean. The definitions and laws stand in specs/ and their proofs in proofs/; the functions
 // here work out the figures that are quoted for a stage, and their contracts name the theorems. A cast narrows what is
-// proved to fit; `try_from` would ask for an answer to a failure that there is not.
+// proved to fit; `try_from` would ask for an answer to a failure that cannot come.
 #![tactic(auto)]
 
 ghost use Rattle.std.specs.Prelude.{◌≡◌, ◌*◌, ◌==◌, None, Some, if◌then◌else◌};
@@ -26,7 +26,7 @@ pub const HALF_COUNT: u32 = 32_768;
 // The whole range of a channel, 65,535 counts, in grains.
 pub const FULL_RANGE: u32 = 4_294_901_760;
 
-// The steepness that claims nothing.
+// The steepness that claims nothing: a number, since the definitions and every quoted figure have it so.
 pub const UNCLAIMED: u32 = 1 << 30;
 
 // How many channels a stage or a pixel has.
@@ -85,7 +85,7 @@ fn figures_hold()
     ensures { WorkedFigures }
 {}
 
-// A steepness that claims something; the one that stands for no claim is none.
+// What a steepness claims; nothing where it is 2^30.
 fn claimed(steepness: u32) -> Option<u32>
     ensures { result ≡ (if steepness == unclaimed then None else Some steepness) }
 {

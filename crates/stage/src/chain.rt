@@ -38,7 +38,8 @@ impl<S: Stage> Stage for Chain<'_, S> {
         self.rest.last().unwrap_or(self.first).outs()
     }
 
-    // A loop here and below: the generic closure of a `fold` would need an `ensures` of its own, and each `fold` an answer.
+    // A loop here and below, each with its invariant: a `fold` would need an answer in its place and an `ensures` of its
+    // closure besides, and a wrong line would be refused in that answer.
     fn steepness(&self) -> u32 {
         let mut steepness = self.first.steepness();
         for next in self.rest {

@@ -12,7 +12,8 @@ use crate::traits::{Colour, Stage};
 use crate::weighing::{SAMPLES, blend, nearest};
 use meaning::{Channels, HALF_COUNT, table_steepness};
 
-// Curves over 1, 3 or 4 channels. The tables of `length` entries lie one after the other.
+// Curves over 1, 3 or 4 channels. The tables of `length` entries lie one after the other; how many entries there are is
+// not told by it.
 #[derive(Clone, Copy)]
 pub struct Curves<E> {
     channels: Channels,
@@ -20,7 +21,7 @@ pub struct Curves<E> {
     table: E,
 }
 
-// The curve of one channel.
+// The curve of one channel. It, `Row` and `Plane` are parts of a whole, but a generic part would have no methods to share.
 #[derive(Drop)]
 struct Curve<'a, E> {
     curves: &'a Curves<E>,

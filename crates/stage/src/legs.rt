@@ -33,7 +33,8 @@ impl Model for Legs {
     ghost invariant = { λ t. Falling (record { most = t.most; middle = t.middle; least = t.least }) };
 }
 
-// The leg of a channel that a lattice does not have.
+// The leg of a channel that a lattice does not have. No sample takes it, so that one sum of corners serves one channel and
+// three; an option would be asked at each corner.
 pub(crate) const IDLE: Leg = Leg {
     index: 0,
     stride: 0,
@@ -78,7 +79,7 @@ fn read_by(samples: u16, count: u16) -> u32
 }
 
 impl Legs {
-    // Compared three times: a pixel can't wait for a sort.
+    // A stable sort would ask for memory, and the other does not tell the order of equal rests, as the definition does.
     pub(crate) fn sorted(a: Leg, b: Leg, c: Leg) -> Legs
         ensures { result ≡ sorted a b c }
     {
@@ -104,7 +105,8 @@ impl Legs {
         [base, second, third, third + self.least.stride as usize]
     }
 
-    // The counts at the corners, each weighed by the samples that read it.
+    // The counts at the corners, each weighed by the samples that read it. A `limit` stands where such a sum is handed on;
+    // as a fact of a type it would be proved at the same places.
     pub(crate) fn weigh(&self, counts: [u16; 4]) -> u32
         ensures value { result ≡ weighed self.now counts }
         ensures limit { result ≤ 65535 * 65535 }

@@ -123,7 +123,7 @@ impl<E: Entries> Plane<'_, E> {
         largest(pairs, |n| self.step(first + n, axis))
     }
 
-    // The largest difference along an axis: in each block, of which there is one for each index of the channels before.
+    // The largest difference along an axis: in each block, one for each combination of indices of the channels before.
     fn axis_step(&self, axis: &Axis) -> u32
         ensures { result ≡ largest_below axis.now.before (λ a. largest_below ((self.now.lattice.now.grid - 1) * axis.now.behind) (λ n. step_of_output E.Entries.counts self.now.lattice.now self.now.output axis.now.behind (a * (self.now.lattice.now.grid * axis.now.behind) + n))) }
     {

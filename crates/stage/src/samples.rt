@@ -16,11 +16,11 @@ pub trait Sample: Copy {
     fn count(self) -> u16
         ensures { result ≡ width.count self };
 
-    // The sample whose count is nearest.
+    // The sample that is made from a count: at both widths the nearest.
     fn nearest(count: u16) -> Self
         ensures { result ≡ width.nearest count };
 
-    // In grains: how far a count may lie from that of its nearest sample.
+    // In grains: how far a count may lie from that of the sample made from it.
     fn error() -> u32
         ensures { result ≡ width.error };
 }
