@@ -1,6 +1,6 @@
 // Lattices at their corners, at equal remainders, and with 2, 33 and 255 grid points.
 use meaning::Channels;
-use stage::{Curves, Joined, Lattice, Stage, Table, WideBytes};
+use stage::{Curves, Joined, Lattice, Stage, Table, WideBytes, lattice_entries};
 use std::test::Fail;
 
 // One output at each corner of three channels.
@@ -15,6 +15,24 @@ fn a_lattice_has_2_grid_points_or_more(rt: HostRuntime) {
     assert!(rt; Lattice::new(Channels::One, Channels::One, 1, Table(&EIGHT)).is_none());
     assert!(rt; Lattice::new(Channels::One, Channels::One, 2, Table(&EIGHT)).is_some());
     assert!(rt; Lattice::new(Channels::Four, Channels::Four, 255, Table(&EIGHT)).is_some());
+}
+
+#[test]
+fn the_entries_of_the_smallest_and_the_largest_lattices(rt: HostRuntime) {
+    assert_eq!(rt; lattice_entries(Channels::One, Channels::One, 2), 2);
+    assert_eq!(rt; lattice_entries(Channels::Four, Channels::Three, 2), 48);
+    assert_eq!(rt;
+        lattice_entries(Channels::Four, Channels::Four, 33),
+        4_743_684
+    );
+    assert_eq!(rt;
+        lattice_entries(Channels::Three, Channels::One, 255),
+        16_581_375
+    );
+    assert_eq!(rt;
+        lattice_entries(Channels::Four, Channels::Four, 255),
+        16_913_002_500
+    );
 }
 
 #[test]

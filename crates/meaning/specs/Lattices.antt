@@ -14,6 +14,10 @@ abbrev pub numbered : ℕ → ℕ → List ℕ → ℕ
 numbered g n [] = n
 numbered g n (x ∷ xs) = numbered g (n * g + x) xs
 
+-- the entries of all nodes: g to the power i nodes, of o entries each
+abbrev pub entries_of_lattice : Channels → Channels → ℕ → ℕ
+entries_of_lattice i o g = g ^ number i * number o
+
 -- output j of node n, where the outputs of each node stand together
 abbrev pub output : ℕ → List ℕ → ℕ → ℕ → ℕ
 output o counts j n = entry counts (n * o + j)

@@ -1,14 +1,14 @@
 -- Blocks of nodes: how many there are, and the differences along a channel block by block. Assumes nothing.
-use Rattle.std.proofs.Common.{◌≡◌, ℕ, ◌+◌, ◌-◌, ◌*◌, ◌^◌, ◌<◌, ◌≤◌, refl, ◌∙◌, le_trans, arith}
+use Rattle.std.proofs.Common.{◌≡◌, ℕ, ◌+◌, ◌-◌, ◌*◌, ◌^◌, ◌≤◌, refl, ◌∙◌, le_trans, arith}
 use native.Mathlib.Nat.{pow-le-pow_left, pow-le-pow_right}
 use Rattle.meaning.specs.Distances.{gap}
 use Rattle.meaning.specs.Sums.{largest_below}
 use Rattle.meaning.specs.Lattices.{largest_along}
 use Rattle.meaning.proofs.Largest.{largest_same, largest_blocks, largest_limit}
 
--- up to three channels have at most 255 · 255 · 255 nodes
-pub nodes_limit : (g n : ℕ) → g ≤ 255 → n < 4 → g ^ n ≤ 16777216
-nodes_limit g n hg hn = le_trans (pow-le-pow_left hg n) (le_trans (pow-le-pow_right {n = 255} (omega arith) {i = n} {j = 3} (omega arith)) (omega arith))
+-- some channels have at most as many nodes as more of them have with 255 grid points
+pub nodes_limit : (g n most : ℕ) → g ≤ 255 → n ≤ most → g ^ n ≤ 255 ^ most
+nodes_limit g n most hg hn = le_trans (pow-le-pow_left hg n) (pow-le-pow_right {n = 255} (omega arith) {i = n} {j = most} hn)
 
 -- the differences along a channel, block by block of the nodes behind one index of the channels before it
 pub along_blocks : (g before behind : ℕ) (t : ℕ → ℕ) →

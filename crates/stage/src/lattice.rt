@@ -2,7 +2,7 @@
 ghost use Rattle.std.specs.Prelude.{◌≡◌, ◌+◌, ◌-◌, ◌*◌, ◌^◌, ◌<◌, ◌≤◌};
 ghost use Rattle.meaning.proofs.LatticeLaws.{lattices_lawful};
 ghost use Rattle.meaning.specs.Colours.{number, nearest};
-ghost use Rattle.meaning.specs.Lattices.{lattice};
+ghost use Rattle.meaning.specs.Lattices.{lattice, entries_of_lattice};
 ghost use Rattle.meaning.specs.Sums.{sum_below};
 ghost use Rattle.meaning.specs.Curves.{entry};
 ghost use Rattle.stage.specs.Lattices.{lattice_over, strides, cell, cell_exact};
@@ -29,6 +29,23 @@ pub struct Lattice<E> {
 pub(crate) enum Cell {
     Alone(Legs),
     Paired(Leg, Legs),
+}
+
+// How many nodes some channels have together.
+pub(crate) fn node_count(grid: u8, channels: usize) -> usize
+    requires { channels ≤ 4 }
+    ensures value { result ≡ grid ^ channels }
+    ensures few { channels < 4 → result ≤ 2 ^ 24 }
+    ensures limit { result ≤ 2 ^ 32 }
+{
+    usize::from(grid).pow(channels as u32)
+}
+
+// How many entries all nodes of a lattice have, one for each output of each node.
+pub fn lattice_entries(ins: Channels, outs: Channels, grid: u8) -> usize
+    ensures { result ≡ entries_of_lattice ins outs grid }
+{
+    node_count(grid, ins.number()) * outs.number()
 }
 
 impl<E: Entries> Lattice<E> {

@@ -79,7 +79,8 @@ fn read_by(samples: u16, count: u16) -> u32
 }
 
 impl Legs {
-    // A stable sort would ask for memory, and the other does not tell the order of equal rests, as the definition does.
+    // Three legs in order. A stable sort would ask for memory, and the other does not tell the order of equal rests, as the
+    // definition does.
     pub(crate) fn sorted(a: Leg, b: Leg, c: Leg) -> Legs
         ensures { result ≡ sorted a b c }
     {
@@ -105,8 +106,8 @@ impl Legs {
         [base, second, third, third + self.least.stride as usize]
     }
 
-    // The counts at the corners, each weighed by the samples that read it. A `limit` stands where such a sum is handed on;
-    // as a fact of a type it would be proved at the same places.
+    // The counts at the corners, each weighed by the samples that read it. Each function that hands such a sum on states
+    // its `limit`; a type that carried it would need the same proofs.
     pub(crate) fn weigh(&self, counts: [u16; 4]) -> u32
         ensures value { result ≡ weighed self.now counts }
         ensures limit { result ≤ 65535 * 65535 }

@@ -20,7 +20,7 @@ pub use chain::Chain;
 pub use curves::Curves;
 pub use entries::{Entries, NarrowBytes, NodeTable, Table, WideBytes};
 pub use joined::Joined;
-pub use lattice::Lattice;
+pub use lattice::{Lattice, lattice_entries};
 pub use matrix::Matrix;
 pub use samples::Sample;
 pub use traits::{Colour, Stage};

@@ -10,7 +10,7 @@ ghost use Rattle.stage.specs.declared.lattice.Cell.TheVariants.{Paired};
 
 use crate::entries::Entries;
 use crate::folding::largest;
-use crate::lattice::{Cell, Lattice};
+use crate::lattice::{Cell, Lattice, node_count};
 use crate::legs::{Leg, Legs};
 use crate::weighing::{PAIRS, SAMPLES, blend, nearest};
 
@@ -32,6 +32,7 @@ struct Axis {
 }
 
 impl<E: Entries> Lattice<E> {
+    // One output, by its number.
     pub(crate) fn plane(&self, output: usize) -> Plane<'_, E>
         requires { output < 4 }
         ensures lattice { result.lattice.now ≡ self.now }
@@ -43,27 +44,19 @@ impl<E: Entries> Lattice<E> {
         }
     }
 
-    // The nodes that some channels have together.
-    fn nodes(&self, channels: usize) -> usize
-        requires { channels < 4 }
-        ensures value { result ≡ self.now.grid ^ channels }
-        ensures limit { result ≤ 2 ^ 24 }
-    {
-        usize::from(self.grid).pow(channels as u32)
-    }
-
+    // The axis of channel k.
     fn axis(&self, k: usize) -> Axis
         requires { k < number self.now.ins }
         ensures before { result.before ≡ self.now.grid ^ k }
         ensures behind { result.behind ≡ self.now.grid ^ (number self.now.ins - (k + 1)) }
     {
         Axis {
-            before: self.nodes(k),
-            behind: self.nodes(self.ins.number() - (k + 1)),
+            before: node_count(self.grid, k),
+            behind: node_count(self.grid, self.ins.number() - (k + 1)),
         }
     }
 
-    // The largest sum among the outputs.
+    // The largest of the outputs' total steps.
     pub(crate) fn largest_step(&self) -> u32
         ensures { result ≡ lattice_step self.now.ins self.now.outs self.now.grid (E.Entries.counts self.now.table) }
     {

@@ -5,8 +5,8 @@ ghost use Rattle.meaning.specs.Colours.{rounded};
 // The samples that a position of a table is read with.
 pub(crate) const SAMPLES: u32 = 65_535;
 
-// Their pairs: each sample of the first of four channels with each of the others.
-pub(crate) const PAIRS: u32 = 4_294_836_225;
+// Their pairs: each sample of the first of four channels with each sample of the other three.
+pub(crate) const PAIRS: u32 = SAMPLES * SAMPLES;
 
 // A sum over `D` samples as the nearest count, halves upward.
 pub(crate) fn nearest<const D: u32>(sum: u64) -> u16
