@@ -4,7 +4,9 @@
 //     curves CHANNELS LENGTH ENTRY ..   tables of LENGTH entries, one after the other
 //     lattice INS OUTS GRID ENTRY ..    nodes of OUTS entries, the last in-channel moving on first
 //     row ENTERS LEAVES SAMPLE ..       pixel kinds gray8, rgb8, cmyk8 or rgb16, and the entering samples
+// The stages run in the order of their lines.
 use meaning::Channels;
+use stage::lattice_entries;
 use std::alloc::{AllocError, Global};
 use std::str::{FromStr, SplitWhitespace};
 use std::{array, fmt};
@@ -61,6 +63,33 @@ pub(crate) struct Nodes {
     pub entries: Vec<u16>,
 }
 
+// A stage, as a line describes it.
+#[derive(Drop)]
+pub(crate) enum StageTask {
+    Matrix([i32; 9]),
+    Curves(Tables),
+    Lattice(Nodes),
+}
+
+// Asked as the lines are read, so that a stage that does not fit is told with its line.
+impl StageTask {
+    fn ins(&self) -> Channels {
+        match self {
+            StageTask::Matrix(_) => Channels::Three,
+            StageTask::Curves(tables) => tables.channels,
+            StageTask::Lattice(nodes) => nodes.ins,
+        }
+    }
+
+    fn outs(&self) -> Channels {
+        match self {
+            StageTask::Matrix(_) => Channels::Three,
+            StageTask::Curves(tables) => tables.channels,
+            StageTask::Lattice(nodes) => nodes.outs,
+        }
+    }
+}
+
 #[derive(Drop)]
 pub(crate) struct RowTask {
     pub enters: KindName,
@@ -68,31 +97,18 @@ pub(crate) struct RowTask {
     pub samples: Vec<u16>,
 }
 
-// The stages in the order in which they run, each of which may be left out, and the rows.
+// The stages in the order in which they run, and the rows, each of which runs through them all.
 #[derive(Drop)]
 pub(crate) struct Job {
-    pub matrix: Option<[i32; 9]>,
-    pub curves: Option<Tables>,
-    pub lattice: Option<Nodes>,
-    pub last_curves: Option<Tables>,
+    pub stages: Vec<StageTask>,
     pub rows: Vec<RowTask>,
 }
 
-// What is wrong with a line.
+// What is wrong with a line, or with the samples of a row.
 #[derive(Debug, Drop, Error)]
 pub(crate) enum Reason {
     #[error("a line begins with matrix, curves, lattice, row or #")]
     UnknownWord,
-    #[error("a job has at most one matrix")]
-    SecondMatrix,
-    #[error("a job has at most one set of curves")]
-    SecondCurves,
-    #[error("a job has at most one set of curves behind its lattice")]
-    SecondLastCurves,
-    #[error("a job has at most one lattice")]
-    SecondLattice,
-    #[error("the matrix stands before the lattice")]
-    LateMatrix,
     #[error("a matrix is nine whole numbers from -2147483648 to 2147483647")]
     NotNineCoefficients,
     #[error("curves have 1, 3 or 4 channels")]
@@ -103,10 +119,10 @@ pub(crate) enum Reason {
     NotALatticeChannelNumber,
     #[error("a lattice has 2 to 255 grid points")]
     NotAGrid,
-    #[error("a lattice and the stages beside it have the same channels where they meet")]
-    Misfit,
-    #[error("this lattice has {wanted} entries, and {found} are given")]
-    EntryNumber { wanted: usize, found: usize },
+    #[error("the channels do not fit: this stage takes {takes}, and the one before it gives {given}")]
+    Misfit { takes: usize, given: usize },
+    #[error("this stage needs {wanted} entries, and the line gives {found}")]
+    WrongEntryCount { wanted: usize, found: usize },
     #[error("entries and samples are whole numbers from 0 to 65535")]
     NotACount,
     #[error("a pixel kind is gray8, rgb8, cmyk8 or rgb16")]
@@ -170,13 +186,23 @@ impl Words<'_> {
         }
     }
 
+    // The entries that all the words stand for, just as many as a stage needs.
+    fn entries(self, wanted: usize) -> Result<Vec<u16>, Reason> {
+        let entries = self.counts()?;
+        let found = entries.len();
+        if wanted != found {
+            return Err(Reason::WrongEntryCount { wanted, found });
+        }
+        Ok(entries)
+    }
+
     fn tables(mut self) -> Result<Tables, Reason> {
         let channels = self.channels().ok_or(Reason::NotAChannelNumber)?;
         let length = self
             .value::<u16>()
             .filter(|length| (2..=4096).contains(length))
             .ok_or(Reason::NotALength)?;
-        let entries = self.counts()?;
+        let entries = self.entries(channels.number() * usize::from(length))?;
         Ok(Tables {
             channels,
             length,
@@ -184,7 +210,6 @@ impl Words<'_> {
         })
     }
 
-    // A lattice has the entries of all its nodes, and no others.
     fn nodes(mut self) -> Result<Nodes, Reason> {
         let ins = self.channels().ok_or(Reason::NotALatticeChannelNumber)?;
         let outs = self.channels().ok_or(Reason::NotALatticeChannelNumber)?;
@@ -192,12 +217,7 @@ impl Words<'_> {
             .value::<u8>()
             .filter(|&grid| grid >= 2)
             .ok_or(Reason::NotAGrid)?;
-        let entries = self.counts()?;
-        let wanted = node_entries(ins, outs, grid);
-        let found = entries.len();
-        if wanted != found {
-            return Err(Reason::EntryNumber { wanted, found });
-        }
+        let entries = self.entries(lattice_entries(ins, outs, grid))?;
         Ok(Nodes {
             ins,
             outs,
@@ -218,21 +238,11 @@ impl Words<'_> {
     }
 }
 
-// The entries of all nodes: `outs` for each combination of grid points.
-fn node_entries(ins: Channels, outs: Channels, grid: u8) -> usize {
-    (0..ins.number()).fold(outs.number(), |entries, _| {
-        entries.saturating_mul(usize::from(grid))
-    })
-}
-
 impl Job {
     // The job that a text describes, or the first line that is wrong.
     pub(crate) fn read(heap: Global, text: &str) -> Result<Job, BadLine> {
         let mut job = Job {
-            matrix: None,
-            curves: None,
-            lattice: None,
-            last_curves: None,
+            stages: Vec::new(heap),
             rows: Vec::new(heap),
         };
         for (line, text) in (1..).zip(text.lines()) {
@@ -250,9 +260,9 @@ impl Job {
         };
         match words.rest.next() {
             None => Ok(()),
-            Some("matrix") => self.take_matrix(words),
-            Some("curves") => self.take_curves(words),
-            Some("lattice") => self.take_lattice(words),
+            Some("matrix") => self.take_stage(StageTask::Matrix(words.matrix()?)),
+            Some("curves") => self.take_stage(StageTask::Curves(words.tables()?)),
+            Some("lattice") => self.take_stage(StageTask::Lattice(words.nodes()?)),
             Some("row") => {
                 self.rows.push(words.row()?)?;
                 Ok(())
@@ -262,68 +272,101 @@ impl Job {
         }
     }
 
-    // The matrix runs before curves and lattice, and stands before the lattice.
-    fn take_matrix(&mut self, words: Words<'_>) -> Result<(), Reason> {
-        if self.matrix.is_some() {
-            return Err(Reason::SecondMatrix);
+    // One stage more, which takes the channels that the one before it gives.
+    fn take_stage(&mut self, stage: StageTask) -> Result<(), Reason> {
+        if let Some(before) = self.stages.last() {
+            let takes = stage.ins().number();
+            let given = before.outs().number();
+            if takes != given {
+                return Err(Reason::Misfit { takes, given });
+            }
         }
-        if self.lattice.is_some() {
-            return Err(Reason::LateMatrix);
-        }
-        self.matrix = Some(words.matrix()?);
+        self.stages.push(stage)?;
         Ok(())
-    }
-
-    // Curves stand before the lattice, or behind it, where they take the channels that it gives.
-    fn take_curves(&mut self, words: Words<'_>) -> Result<(), Reason> {
-        match self.lattice.as_ref().map(|nodes| nodes.outs) {
-            None => fill_curves(&mut self.curves, Reason::SecondCurves, None, words),
-            given => fill_curves(
-                &mut self.last_curves,
-                Reason::SecondLastCurves,
-                given,
-                words,
-            ),
-        }
-    }
-
-    fn take_lattice(&mut self, words: Words<'_>) -> Result<(), Reason> {
-        if self.lattice.is_some() {
-            return Err(Reason::SecondLattice);
-        }
-        let nodes = words.nodes()?;
-        check_fit(self.given_channels(), nodes.ins)?;
-        self.lattice = Some(nodes);
-        Ok(())
-    }
-
-    // The channels that the stages before a lattice give.
-    fn given_channels(&self) -> Option<Channels> {
-        let of_curves = self.curves.as_ref().map(|tables| tables.channels);
-        of_curves.or_else(|| self.matrix.map(|_| Channels::Three))
     }
 }
 
-// A stage takes the channels that the stage before it gives.
-fn check_fit(given: Option<Channels>, ins: Channels) -> Result<(), Reason> {
-    match given {
-        Some(given) if given != ins => Err(Reason::Misfit),
-        _ => Ok(()),
-    }
-}
+#[cfg(test)]
+mod tests {
+    use super::*;
+    use std::test::Fail;
 
-// Fills a place that curves may take once.
-fn fill_curves(
-    place: &mut Option<Tables>,
-    second: Reason,
-    given: Option<Channels>,
-    words: Words<'_>,
-) -> Result<(), Reason> {
-    if place.is_some() {
-        return Err(second);
+    // Texts of one wrong line each, with what is said of it.
+    const WRONG: [(&str, &str); 18] = [
+        (
+            "bent 1 2 0 1",
+            "line 1: a line begins with matrix, curves, lattice, row or #",
+        ),
+        (
+            "matrix 1 0 0 0 1 0 0 0",
+            "line 1: a matrix is nine whole numbers from -2147483648 to 2147483647",
+        ),
+        (
+            "matrix 1 0 0 0 1 0 0 0 1 5",
+            "line 1: a matrix is nine whole numbers from -2147483648 to 2147483647",
+        ),
+        (
+            "curves 2 2 0 1 0 1",
+            "line 1: curves have 1, 3 or 4 channels",
+        ),
+        ("curves 1 1 0", "line 1: a table has 2 to 4096 entries"),
+        ("curves 1 4097 0", "line 1: a table has 2 to 4096 entries"),
+        (
+            "curves 1 2 0 65536",
+            "line 1: entries and samples are whole numbers from 0 to 65535",
+        ),
+        (
+            "curves 1 3 0 65535",
+            "line 1: this stage needs 3 entries, and the line gives 2",
+        ),
+        (
+            "curves 3 2 0 1 0 1 0 1 9",
+            "line 1: this stage needs 6 entries, and the line gives 7",
+        ),
+        (
+            "lattice 3 2 2 0",
+            "line 1: a lattice takes and gives 1, 3 or 4 channels",
+        ),
+        (
+            "lattice 1 1 1 0",
+            "line 1: a lattice has 2 to 255 grid points",
+        ),
+        (
+            "lattice 1 1 256 0",
+            "line 1: a lattice has 2 to 255 grid points",
+        ),
+        (
+            "lattice 3 4 2 0",
+            "line 1: this stage needs 32 entries, and the line gives 1",
+        ),
+        (
+            "lattice 1 1 2 0 1 2",
+            "line 1: this stage needs 2 entries, and the line gives 3",
+        ),
+        (
+            "row gray8 gray16 0",
+            "line 1: a pixel kind is gray8, rgb8, cmyk8 or rgb16",
+        ),
+        (
+            "row gray8",
+            "line 1: a pixel kind is gray8, rgb8, cmyk8 or rgb16",
+        ),
+        (
+            "curves 1 2 0 1\n# a remark\n\nmatrix 1 0 0 0 1 0 0 0 1\nbent",
+            "line 4: the channels do not fit: this stage takes 3, and the one before it gives 1",
+        ),
+        (
+            "lattice 1 3 2 0 0 0 1 1 1\nlattice 1 1 2 0 1",
+            "line 2: the channels do not fit: this stage takes 1, and the one before it gives 3",
+        ),
+    ];
+
+    #[test]
+    fn the_first_wrong_line_is_told(rt: HostRuntime) -> Result<(), Fail> {
+        for (text, sentence) in WRONG {
+            let bad = Job::read(rt.alloc(), text).err().ok_or(text)?;
+            assert_eq!(rt; bad.to_string(rt.alloc())?.as_str(), sentence);
+        }
+        Ok(())
     }
-    let tables = words.tables()?;
-    check_fit(given, tables.channels)?;
-    *place = Some(tables);
-    Ok(())
 }

@@ -24,11 +24,10 @@ fn run_job(rt: &HostRuntime, path: &str) -> anyhow::Result<()> {
     }
 }
 
-// One argument: a job's path, or one of the words selftest and selftest-lattices.
+// One argument: a job's path, or the word selftest.
 fn run_argument(rt: &HostRuntime, argument: &str) -> anyhow::Result<()> {
     match argument {
         "selftest" => selftest::run(rt),
-        "selftest-lattices" => selftest::run_lattices(rt),
         path => run_job(rt, path),
     }
 }

@@ -1,5 +1,5 @@
 // Runs the rows of a job through its stages and prints what they did, with the bound that is promised.
-use crate::job::{Job, KindName, Nodes, RowTask, Tables};
+use crate::job::{Job, KindName, Nodes, RowTask, StageTask, Tables};
 use crate::samples::{Sampled, pixels};
 use anyhow::Context;
 use link::{Cmyk8, Gray8, Pixel, Rgb8, Rgb16, row};
@@ -191,27 +191,21 @@ fn lattice_of(nodes: &Nodes) -> anyhow::Result<Step<'_>> {
     Ok(Step::Lattice(lattice))
 }
 
-// Prints a step and puts it behind the others.
-fn add<'a>(rt: &HostRuntime, steps: &mut Vec<Step<'a>>, step: Step<'a>) -> anyhow::Result<()> {
-    print_stage(rt, step.name(), &step)?;
-    steps.push(step)?;
-    Ok(())
+fn step_of(stage: &StageTask) -> anyhow::Result<Step<'_>> {
+    match stage {
+        StageTask::Matrix(coefficients) => Ok(Step::Matrix(Matrix::new(*coefficients))),
+        StageTask::Curves(tables) => curves_of(tables),
+        StageTask::Lattice(nodes) => lattice_of(nodes),
+    }
 }
 
-// The stages of a job in the order in which they run, each printed as it is made.
+// The stages of a job in their order, each printed as it is made.
 fn steps_of<'a>(rt: &HostRuntime, job: &'a Job) -> anyhow::Result<Vec<Step<'a>>> {
     let mut steps = Vec::new(rt.alloc());
-    if let Some(coefficients) = job.matrix {
-        add(rt, &mut steps, Step::Matrix(Matrix::new(coefficients)))?;
-    }
-    if let Some(tables) = &job.curves {
-        add(rt, &mut steps, curves_of(tables)?)?;
-    }
-    if let Some(nodes) = &job.lattice {
-        add(rt, &mut steps, lattice_of(nodes)?)?;
-    }
-    if let Some(tables) = &job.last_curves {
-        add(rt, &mut steps, curves_of(tables)?)?;
+    for stage in job.stages.iter() {
+        let step = step_of(stage)?;
+        print_stage(rt, step.name(), &step)?;
+        steps.push(step)?;
     }
     Ok(steps)
 }
@@ -219,7 +213,9 @@ fn steps_of<'a>(rt: &HostRuntime, job: &'a Job) -> anyhow::Result<Vec<Step<'a>>>
 // Prints the stages of a job, and what they tell together where there is more than one, and runs its rows.
 pub(crate) fn run(rt: &HostRuntime, job: &Job) -> anyhow::Result<()> {
     let steps = steps_of(rt, job)?;
-    let chain = Chain::new(steps.as_slice()).context("a job has a matrix, curves or a lattice")?;
+    let chain = Chain::new(steps.as_slice()).context(
+        "a job has one stage or more: matrix, curves or lattice",
+    )?;
     if steps.len() > 1 {
         print_stage(rt, "joined", &chain)?;
     }

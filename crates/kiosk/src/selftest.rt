@@ -124,22 +124,32 @@ fn compare<I: Iterator<Item = (Figure, u32)> + Drop>(
     outcome
 }
 
-// The figures of curves, matrices and joining.
+// Shows all worked figures, and fails where a stage gives another.
 pub(crate) fn run(rt: &HostRuntime) -> anyhow::Result<()> {
     println!(rt; "selftest")?;
-    let Measured(figures) = measured_figures().context("the curve was refused")?;
-    compare(rt, figures.into_iter().zip(worked_figures().curves))
-}
-
-// The figures of lattices. Kept beside `run`: it prints another heading and other figures.
-pub(crate) fn run_lattices(rt: &HostRuntime) -> anyhow::Result<()> {
-    println!(rt; "selftest-lattices")?;
+    let Measured(curves) = measured_figures().context("the curve was refused")?;
     let Measured(cube) = measured_cube().context("the lattice was refused")?;
     let Measured(fading) = measured_fading_cube().context(
         "the lattice of four channels was refused",
     )?;
     let proved = worked_figures();
+    let curves = curves.into_iter().zip(proved.curves);
     let cube = cube.into_iter().zip(proved.cube);
     let fading = fading.into_iter().zip(proved.fading_cube);
-    compare(rt, cube.chain(fading))
+    compare(rt, curves.chain(cube).chain(fading))
+}
+
+#[cfg(test)]
+mod tests {
+    use super::*;
+
+    #[test]
+    fn a_figure_that_differs_fails(rt: HostRuntime) {
+        let figure = Figure {
+            name: "one",
+            measured: 1,
+        };
+        assert!(rt; compare(&rt, [figure].into_iter().zip([1])).is_ok());
+        assert!(rt; compare(&rt, [figure, figure].into_iter().zip([2, 1])).is_err());
+    }
 }
