@@ -4,8 +4,13 @@ use Rattle.meaning.specs.declared.Channels.{Channels}
 use Rattle.meaning.specs.Curves.{table_entry}
 use Rattle.meaning.specs.Distances.{gap}
 use Rattle.stage.specs.declared.curves.Curves.{Curves}
+use Rattle.stage.specs.declared.curves.TableLength.{TableLength}
 
--- tables of 2 to 4,096 entries make curves; others are refused
+-- a table has 2 to 4,096 entries
+abbrev pub table_length : ℕ → Option TableLength
+table_length n = cond (nat_le 2 n && nat_le n 4096) (Some (record { 0 = n })) None
+
+-- such tables make curves; others are refused
 abbrev pub curves_over : {E : Type 0} → Channels → ℕ → E → Option (Curves E)
 curves_over w n table = cond (nat_le 2 n && nat_le n 4096) (Some (record { channels = w; length = n; table = table })) None
 

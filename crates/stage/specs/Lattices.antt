@@ -7,11 +7,15 @@ use Rattle.meaning.specs.Distances.{gap}
 use Rattle.meaning.specs.Lattices.{output}
 use Rattle.meaning.specs.Sums.{sum_below}
 use Rattle.stage.specs.declared.lattice.Lattice.{Lattice}
+use Rattle.stage.specs.declared.lattice.Grid.{Grid}
 use Rattle.stage.specs.declared.lattice.Cell.{Cell}
 use Rattle.stage.specs.declared.lattice.Cell.TheVariants.{Alone, Paired}
 use Rattle.stage.specs.Legs.{idle, leg, sorted, reach, reach_all}
 
 -- a lattice has 2 grid points or more in each channel
+abbrev pub grid_of : ℕ → Option Grid
+grid_of g = cond (nat_le 2 g) (Some (record { 0 = g })) None
+
 abbrev pub lattice_over : {E : Type 0} → Channels → Channels → ℕ → E → Option (Lattice E)
 lattice_over i o g table = cond (nat_le 2 g) (Some (record { ins = i; outs = o; grid = g; table = table })) None
 

@@ -20,7 +20,15 @@ impl<'a, S> Chain<'a, S> {
         ensures stages { IfSome result (λ chain. stages_of chain ≡ stages.now) }
     {
         let (first, rest) = stages.split_first()?;
-        Some(Chain { first, rest })
+        Some(Chain::of(first, rest))
+    }
+
+    // The chain of a stage and those behind it.
+    pub fn of(first: &'a S, rest: &'a [S]) -> Chain<'a, S>
+        ensures first { result.first.now ≡ first.now }
+        ensures rest { result.rest.now ≡ rest.now }
+    {
+        Chain { first, rest }
     }
 }
 

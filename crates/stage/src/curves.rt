@@ -4,13 +4,34 @@ ghost use Rattle.meaning.proofs.CurveLaws.{curves_lawful};
 ghost use Rattle.meaning.specs.Colours.{number, rounded};
 ghost use Rattle.meaning.specs.Curves.{curves};
 ghost use Rattle.meaning.specs.Sums.{largest_below, samples};
-ghost use Rattle.stage.specs.Curves.{curves_over, curve_entry, curve_step};
+ghost use Rattle.stage.specs.Curves.{table_length, curves_over, curve_entry, curve_step};
 
 use crate::entries::Entries;
 use crate::folding::{colour_of, largest};
 use crate::traits::{Colour, Stage};
 use crate::weighing::{SAMPLES, blend, nearest};
 use meaning::{Channels, HALF_COUNT, table_steepness};
+
+// How many entries each table of curves has: 2 to 4,096.
+#[derive(Clone, Copy, PartialEq, Eq, Debug)]
+pub struct TableLength(u16);
+
+impl TableLength {
+    // That many entries, or nothing where no table has so many.
+    pub fn new(entries: u16) -> Option<TableLength>
+        ensures { result ≡ table_length entries }
+    {
+        (2..=4096)
+            .contains(&entries)
+            .then_some(TableLength(entries))
+    }
+
+    pub fn entries(self) -> u16
+        ensures { result ≡ self.0 }
+    {
+        self.0
+    }
+}
 
 // Curves over 1, 3 or 4 channels. The tables of `length` entries lie one after the other; how many entries there are is
 // not told by it.
@@ -36,11 +57,25 @@ impl<E: Entries> Curves<E> {
         E: Drop,
         ensures { result ≡ curves_over channels length table }
     {
-        (2..=4096).contains(&length).then_some(Curves {
+        Some(Curves::over(channels, TableLength::new(length)?, table))
+    }
+
+    // Curves whose tables have that many entries.
+    pub fn over(channels: Channels, length: TableLength, table: E) -> Curves<E>
+        ensures { result ≡ record { channels = channels; length = length.0; table = table } }
+    {
+        Curves {
             channels,
-            length,
+            length: length.entries(),
             table,
-        })
+        }
+    }
+
+    // Where the entries come from.
+    pub fn table(&self) -> &E
+        ensures { result.now ≡ self.now.table }
+    {
+        &self.table
     }
 
     fn curve(&self, channel: usize) -> Curve<'_, E>

@@ -5,7 +5,7 @@ ghost use Rattle.meaning.specs.Colours.{number, nearest};
 ghost use Rattle.meaning.specs.Lattices.{lattice, entries_of_lattice};
 ghost use Rattle.meaning.specs.Sums.{sum_below};
 ghost use Rattle.meaning.specs.Curves.{entry};
-ghost use Rattle.stage.specs.Lattices.{lattice_over, strides, cell, cell_exact};
+ghost use Rattle.stage.specs.Lattices.{grid_of, lattice_over, strides, cell, cell_exact};
 ghost use Rattle.stage.specs.Legs.{reach_all};
 
 use crate::entries::Entries;
@@ -13,6 +13,25 @@ use crate::folding::colour_of;
 use crate::legs::{IDLE, Leg, Legs};
 use crate::traits::{Colour, Stage};
 use meaning::{Channels, HALF_COUNT, table_steepness};
+
+// How many points a lattice has along each in-channel: 2 to 255.
+#[derive(Clone, Copy, PartialEq, Eq, Debug)]
+pub struct Grid(u8);
+
+impl Grid {
+    // That many points, or nothing where they are fewer than 2.
+    pub fn new(points: u8) -> Option<Grid>
+        ensures { result ≡ grid_of points }
+    {
+        (points >= 2).then_some(Grid(points))
+    }
+
+    pub fn points(self) -> u8
+        ensures { result ≡ self.0 }
+    {
+        self.0
+    }
+}
 
 // A lattice of `grid` points in each in-channel. From one node of the table to the next the last in-channel moves on
 // first, and all outputs of a node stand together.
@@ -43,7 +62,8 @@ pub(crate) fn node_count(grid: u8, channels: usize) -> usize
 
 // How many entries all nodes of a lattice have, one for each output of each node.
 pub fn lattice_entries(ins: Channels, outs: Channels, grid: u8) -> usize
-    ensures { result ≡ entries_of_lattice ins outs grid }
+    ensures value { result ≡ entries_of_lattice ins outs grid }
+    ensures limit { result ≤ 2 ^ 34 }
 {
     node_count(grid, ins.number()) * outs.number()
 }
@@ -55,12 +75,26 @@ impl<E: Entries> Lattice<E> {
         E: Drop,
         ensures { result ≡ lattice_over ins outs grid table }
     {
-        (grid >= 2).then_some(Lattice {
+        Some(Lattice::over(ins, outs, Grid::new(grid)?, table))
+    }
+
+    // A lattice with that many grid points.
+    pub fn over(ins: Channels, outs: Channels, grid: Grid, table: E) -> Lattice<E>
+        ensures { result ≡ record { ins = ins; outs = outs; grid = grid.0; table = table } }
+    {
+        Lattice {
             ins,
             outs,
-            grid,
+            grid: grid.points(),
             table,
-        })
+        }
+    }
+
+    // Where the entries come from.
+    pub fn table(&self) -> &E
+        ensures { result.now ≡ self.now.table }
+    {
+        &self.table
     }
 
     // The steps from the first to the last grid point of a channel.
