@@ -1,0 +1,4 @@
+pub mod CheckLaws
+pub mod OpeningLaws
+pub mod ChainingLaws
+pub mod PartLaws

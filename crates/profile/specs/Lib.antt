@@ -1,0 +1,17 @@
+pub mod Bytes
+pub mod Spaces
+pub mod Tags
+pub mod Faults
+pub mod Checks
+pub mod Headers
+pub mod Directories
+pub mod Kinds
+pub mod Shapes
+pub mod Layouts
+pub mod Views
+pub mod Elements
+pub mod Opening
+pub mod Chaining
+pub mod ChainViews
+pub mod Sentences
+pub mod Parts
