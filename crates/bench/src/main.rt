@@ -1,6 +1,8 @@
-// Works out the steepness of large lattices, for which their tables are read whole, and prints it. How long that took
-// goes to standard error, since it differs from run to run.
+// Works out the steepness of large lattices, for which their tables are read whole, and opens large profiles. How long that
+// took goes to standard error, since it differs from run to run.
 #![tactic(auto)]
+
+mod profiles;
 
 use anyhow::Context;
 use meaning::Channels;
@@ -36,9 +38,9 @@ impl Shape {
         lattice_entries(self.ins, self.outs, self.grid)
     }
 
-    // Two for each entry; saturating, since no contract bounds the entries of a shape.
+    // Two for each entry.
     fn bytes(self) -> usize {
-        self.entries().saturating_mul(2)
+        2 * lattice_entries(self.ins, self.outs, self.grid)
     }
 }
 
@@ -49,7 +51,7 @@ fn scrambled(number: u32) -> u16 {
 }
 
 // Samples in no order, the same in every run.
-fn scattered<S: Sample>(heap: Global, count: usize) -> Result<Vec<S>, AllocError> {
+pub(crate) fn scattered<S: Sample>(heap: Global, count: usize) -> Result<Vec<S>, AllocError> {
     (0u32..)
         .take(count)
         .map(|number| S::nearest(scrambled(number)))
@@ -89,7 +91,7 @@ fn scan_all(rt: &HostRuntime) -> anyhow::Result<()> {
 }
 
 fn main(rt: HostRuntime) -> ExitCode {
-    match scan_all(&rt) {
+    match scan_all(&rt).and_then(|()| profiles::run(&rt)) {
         Ok(()) => ExitCode::SUCCESS,
         Err(error) => {
             let _ = eprintln!(rt; "bench: {error}");

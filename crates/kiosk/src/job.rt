@@ -3,10 +3,13 @@
 //     matrix E E E E E E E E E          nine coefficients in 65,536ths, row after row
 //     curves CHANNELS LENGTH ENTRY ..   tables of LENGTH entries, one after the other
 //     lattice INS OUTS GRID ENTRY ..    nodes of OUTS entries, the last in-channel moving on first
+//     profile TAG FILE                  the element A2B0 or B2A0 of a profile, in place of other stages
 //     row ENTERS LEAVES SAMPLE ..       pixel kinds gray8, rgb8, cmyk8 or rgb16, and the entering samples
-// The stages run in the order of their lines.
+//     colour COUNT ..                   one count for each channel
+// Stages and profiles run in the order of their lines.
 use meaning::Channels;
-use stage::lattice_entries;
+use profile::Tag;
+use stage::{Grid, TableLength, lattice_entries};
 use std::alloc::{AllocError, Global};
 use std::str::{FromStr, SplitWhitespace};
 use std::{array, fmt};
@@ -50,7 +53,7 @@ impl fmt::Display for KindName {
 #[derive(Drop)]
 pub(crate) struct Tables {
     pub channels: Channels,
-    pub length: u16,
+    pub length: TableLength,
     pub entries: Vec<u16>,
 }
 
@@ -59,7 +62,7 @@ pub(crate) struct Tables {
 pub(crate) struct Nodes {
     pub ins: Channels,
     pub outs: Channels,
-    pub grid: u8,
+    pub grid: Grid,
     pub entries: Vec<u16>,
 }
 
@@ -97,17 +100,32 @@ pub(crate) struct RowTask {
     pub samples: Vec<u16>,
 }
 
-// The stages in the order in which they run, and the rows, each of which runs through them all.
+// What is asked for: a row or a colour to run.
+#[derive(Drop)]
+pub(crate) enum Task {
+    Row(RowTask),
+    Colour(Vec<u16>),
+}
+
+// An element of a profile, and the file that the profile is in.
+#[derive(Drop)]
+pub(crate) struct ProfileTask {
+    pub tag: Tag,
+    pub path: String,
+}
+
+// The stages or else the profiles, in the order in which they run, and the tasks, each of which runs through them all.
 #[derive(Drop)]
 pub(crate) struct Job {
     pub stages: Vec<StageTask>,
-    pub rows: Vec<RowTask>,
+    pub profiles: Vec<ProfileTask>,
+    pub tasks: Vec<Task>,
 }
 
-// What is wrong with a line, or with the samples of a row.
+// What is wrong with a line, with an argument, or with the samples of a row.
 #[derive(Debug, Drop, Error)]
 pub(crate) enum Reason {
-    #[error("a line begins with matrix, curves, lattice, row or #")]
+    #[error("a line begins with matrix, curves, lattice, profile, row, colour or #")]
     UnknownWord,
     #[error("a matrix is nine whole numbers from -2147483648 to 2147483647")]
     NotNineCoefficients,
@@ -123,7 +141,13 @@ pub(crate) enum Reason {
     Misfit { takes: usize, given: usize },
     #[error("this stage needs {wanted} entries, and the line gives {found}")]
     WrongEntryCount { wanted: usize, found: usize },
-    #[error("entries and samples are whole numbers from 0 to 65535")]
+    #[error("a profile is A2B0 or B2A0, and the path of a file")]
+    NotAProfile,
+    #[error("a job has profiles or other stages, and not both")]
+    Mixed,
+    #[error("a colour has 1, 3 or 4 counts")]
+    NotAColour,
+    #[error("entries, samples and counts are whole numbers from 0 to 65535")]
     NotACount,
     #[error("a pixel kind is gray8, rgb8, cmyk8 or rgb16")]
     NotAPixelKind,
@@ -199,10 +223,10 @@ impl Words<'_> {
     fn tables(mut self) -> Result<Tables, Reason> {
         let channels = self.channels().ok_or(Reason::NotAChannelNumber)?;
         let length = self
-            .value::<u16>()
-            .filter(|length| (2..=4096).contains(length))
+            .value()
+            .and_then(TableLength::new)
             .ok_or(Reason::NotALength)?;
-        let entries = self.entries(channels.number() * usize::from(length))?;
+        let entries = self.entries(channels.number() * usize::from(length.entries()))?;
         Ok(Tables {
             channels,
             length,
@@ -213,17 +237,34 @@ impl Words<'_> {
     fn nodes(mut self) -> Result<Nodes, Reason> {
         let ins = self.channels().ok_or(Reason::NotALatticeChannelNumber)?;
         let outs = self.channels().ok_or(Reason::NotALatticeChannelNumber)?;
-        let grid = self
-            .value::<u8>()
-            .filter(|&grid| grid >= 2)
-            .ok_or(Reason::NotAGrid)?;
-        let entries = self.entries(lattice_entries(ins, outs, grid))?;
+        let grid = self.value().and_then(Grid::new).ok_or(Reason::NotAGrid)?;
+        let entries = self.entries(lattice_entries(ins, outs, grid.points()))?;
         Ok(Nodes {
             ins,
             outs,
             grid,
             entries,
         })
+    }
+
+    fn profile(mut self) -> Result<ProfileTask, Reason> {
+        let tag = self
+            .rest
+            .next()
+            .and_then(tag_of)
+            .ok_or(Reason::NotAProfile)?;
+        let path = self.rest.next().ok_or(Reason::NotAProfile)?;
+        match self.rest.next() {
+            None => Ok(ProfileTask {
+                tag,
+                path: path.to_string(self.heap)?,
+            }),
+            Some(_) => Err(Reason::NotAProfile),
+        }
+    }
+
+    fn colour(self) -> Result<Vec<u16>, Reason> {
+        colour_of(self.counts()?)
     }
 
     fn row(mut self) -> Result<RowTask, Reason> {
@@ -238,18 +279,60 @@ impl Words<'_> {
     }
 }
 
+// The counts of a colour, as many as a stage may take.
+fn colour_of(counts: Vec<u16>) -> Result<Vec<u16>, Reason> {
+    match counts.len() {
+        1 | 3 | 4 => Ok(counts),
+        _ => Err(Reason::NotAColour),
+    }
+}
+
+fn tag_of(word: &str) -> Option<Tag> {
+    match word {
+        "A2B0" => Some(Tag::A2B0),
+        "B2A0" => Some(Tag::B2A0),
+        _ => None,
+    }
+}
+
+// The element and the file that TAG:FILE names, or nothing where it has not that form.
+pub(crate) fn tag_and_file(argument: &str) -> Option<(Tag, &str)> {
+    let (tag, file) = argument.split_once(':')?;
+    let tag = tag_of(tag)?;
+    (!file.is_empty()).then_some((tag, file))
+}
+
 impl Job {
+    // A job that has nothing yet.
+    pub(crate) fn new(heap: Global) -> Job {
+        Job {
+            stages: Vec::new(heap),
+            profiles: Vec::new(heap),
+            tasks: Vec::new(heap),
+        }
+    }
+
     // The job that a text describes, or the first line that is wrong.
     pub(crate) fn read(heap: Global, text: &str) -> Result<Job, BadLine> {
-        let mut job = Job {
-            stages: Vec::new(heap),
-            rows: Vec::new(heap),
-        };
+        let mut job = Job::new(heap);
         for (line, text) in (1..).zip(text.lines()) {
             job.take_line(heap, text)
                 .map_err(|reason| BadLine { line, reason })?;
         }
         Ok(job)
+    }
+
+    // One argument more: TAG:FILE for a profile, or the counts of a colour with commas between.
+    pub(crate) fn take_argument(&mut self, heap: Global, argument: &str) -> Result<(), Reason> {
+        if let Some((tag, file)) = tag_and_file(argument) {
+            let path = file.to_string(heap)?;
+            return self.take_profile(ProfileTask { tag, path });
+        }
+        let counts = argument
+            .split(',')
+            .map(|word| word.parse::<u16>().map_err(|_| Reason::NotACount))
+            .try_collect(heap)?;
+        self.take_task(Task::Colour(colour_of(counts)?))
     }
 
     // One line more of a job.
@@ -263,10 +346,9 @@ impl Job {
             Some("matrix") => self.take_stage(StageTask::Matrix(words.matrix()?)),
             Some("curves") => self.take_stage(StageTask::Curves(words.tables()?)),
             Some("lattice") => self.take_stage(StageTask::Lattice(words.nodes()?)),
-            Some("row") => {
-                self.rows.push(words.row()?)?;
-                Ok(())
-            }
+            Some("profile") => self.take_profile(words.profile()?),
+            Some("row") => self.take_task(Task::Row(words.row()?)),
+            Some("colour") => self.take_task(Task::Colour(words.colour()?)),
             Some(word) if word.starts_with('#') => Ok(()),
             Some(_) => Err(Reason::UnknownWord),
         }
@@ -274,6 +356,9 @@ impl Job {
 
     // One stage more, which takes the channels that the one before it gives.
     fn take_stage(&mut self, stage: StageTask) -> Result<(), Reason> {
+        if !self.profiles.is_empty() {
+            return Err(Reason::Mixed);
+        }
         if let Some(before) = self.stages.last() {
             let takes = stage.ins().number();
             let given = before.outs().number();
@@ -284,6 +369,21 @@ impl Job {
         self.stages.push(stage)?;
         Ok(())
     }
+
+    // One profile more.
+    fn take_profile(&mut self, profile: ProfileTask) -> Result<(), Reason> {
+        if !self.stages.is_empty() {
+            return Err(Reason::Mixed);
+        }
+        self.profiles.push(profile)?;
+        Ok(())
+    }
+
+    // One row or colour more.
+    fn take_task(&mut self, task: Task) -> Result<(), Reason> {
+        self.tasks.push(task)?;
+        Ok(())
+    }
 }
 
 #[cfg(test)]
@@ -292,10 +392,10 @@ mod tests {
     use std::test::Fail;
 
     // Texts of one wrong line each, with what is said of it.
-    const WRONG: [(&str, &str); 18] = [
+    const WRONG: [(&str, &str); 25] = [
         (
             "bent 1 2 0 1",
-            "line 1: a line begins with matrix, curves, lattice, row or #",
+            "line 1: a line begins with matrix, curves, lattice, profile, row, colour or #",
         ),
         (
             "matrix 1 0 0 0 1 0 0 0",
@@ -313,7 +413,7 @@ mod tests {
         ("curves 1 4097 0", "line 1: a table has 2 to 4096 entries"),
         (
             "curves 1 2 0 65536",
-            "line 1: entries and samples are whole numbers from 0 to 65535",
+            "line 1: entries, samples and counts are whole numbers from 0 to 65535",
         ),
         (
             "curves 1 3 0 65535",
@@ -344,6 +444,31 @@ mod tests {
             "line 1: this stage needs 2 entries, and the line gives 3",
         ),
         (
+            "profile A2B1 rgb.icc",
+            "line 1: a profile is A2B0 or B2A0, and the path of a file",
+        ),
+        (
+            "profile A2B0",
+            "line 1: a profile is A2B0 or B2A0, and the path of a file",
+        ),
+        (
+            "profile A2B0 rgb.icc twice",
+            "line 1: a profile is A2B0 or B2A0, and the path of a file",
+        ),
+        (
+            "curves 1 2 0 1\nprofile A2B0 gray.icc",
+            "line 2: a job has profiles or other stages, and not both",
+        ),
+        (
+            "profile A2B0 gray.icc\nmatrix 1 0 0 0 1 0 0 0 1",
+            "line 2: a job has profiles or other stages, and not both",
+        ),
+        ("colour 1 2", "line 1: a colour has 1, 3 or 4 counts"),
+        (
+            "colour 65536",
+            "line 1: entries, samples and counts are whole numbers from 0 to 65535",
+        ),
+        (
             "row gray8 gray16 0",
             "line 1: a pixel kind is gray8, rgb8, cmyk8 or rgb16",
         ),
@@ -367,6 +492,21 @@ mod tests {
             let bad = Job::read(rt.alloc(), text).err().ok_or(text)?;
             assert_eq!(rt; bad.to_string(rt.alloc())?.as_str(), sentence);
         }
+        Ok(())
+    }
+
+    #[test]
+    fn arguments_are_profiles_and_colours(rt: HostRuntime) -> Result<(), Fail> {
+        let heap = rt.alloc();
+        let mut job = Job::new(heap);
+        job.take_argument(heap, "B2A0:a/b.icc")
+            .map_err(|_| "profile")?;
+        job.take_argument(heap, "1,2,65535").map_err(|_| "colour")?;
+        assert_eq!(rt; job.profiles.len(), 1);
+        assert_eq!(rt; job.tasks.len(), 1);
+        assert!(rt; job.take_argument(heap, "1,2").is_err());
+        assert!(rt; job.take_argument(heap, "1,2,65536").is_err());
+        assert!(rt; job.take_argument(heap, "C2B0:c.icc").is_err());
         Ok(())
     }
 }

@@ -1,85 +1,14 @@
-// Runs the rows of a job through its stages and prints what they did, with the bound that is promised.
-use crate::job::{Job, KindName, Nodes, RowTask, StageTask, Tables};
+// Runs what a job asks for through its stages, or through the profiles that it names, and prints what came of it, with the
+// bound that is promised.
+use crate::job::{Job, KindName, RowTask, Task};
+use crate::profiles::{files_of, opened};
 use crate::samples::{Sampled, pixels};
+use crate::steps::Step;
 use anyhow::Context;
 use link::{Cmyk8, Gray8, Pixel, Rgb8, Rgb16, row};
-use meaning::{CHANNELS, Channels, hundred_thousandths};
-use stage::{Chain, Colour, Curves, Lattice, Matrix, NodeTable, Stage, Table};
-
-// One stage of a job.
-#[derive(Clone, Copy)]
-enum Step<'a> {
-    Matrix(Matrix),
-    Curves(Curves<NodeTable<'a>>),
-    Lattice(Lattice<NodeTable<'a>>),
-}
-
-impl Step<'_> {
-    fn name(&self) -> &'static str {
-        match self {
-            Step::Matrix(_) => "matrix",
-            Step::Curves(_) => "curves",
-            Step::Lattice(_) => "lattice",
-        }
-    }
-}
-
-// A match in each method, since no function may hand out the `&dyn Stage` that one match would make.
-impl Stage for Step<'_> {
-    ghost use Rattle.kiosk.specs.declared.run.Step.TheVariants.{Matrix, Curves, Lattice};
-
-    ghost meaning = { elim [
-      | Matrix m ↦ ⟦<Matrix as Stage>⟧.meaning m
-      | Curves c ↦ ⟦<Curves<NodeTable<'static>> as Stage>⟧.meaning c
-      | Lattice l ↦ ⟦<Lattice<NodeTable<'static>> as Stage>⟧.meaning l
-    ] };
-
-    ghost lawful = { elim [
-      | Matrix m ↦ ⟦<Matrix as Stage>⟧.lawful m
-      | Curves c ↦ ⟦<Curves<NodeTable<'static>> as Stage>⟧.lawful c
-      | Lattice l ↦ ⟦<Lattice<NodeTable<'static>> as Stage>⟧.lawful l
-    ] };
-
-    fn ins(&self) -> Channels {
-        match self {
-            Step::Matrix(matrix) => matrix.ins(),
-            Step::Curves(curves) => curves.ins(),
-            Step::Lattice(lattice) => lattice.ins(),
-        }
-    }
-
-    fn outs(&self) -> Channels {
-        match self {
-            Step::Matrix(matrix) => matrix.outs(),
-            Step::Curves(curves) => curves.outs(),
-            Step::Lattice(lattice) => lattice.outs(),
-        }
-    }
-
-    fn steepness(&self) -> u32 {
-        match self {
-            Step::Matrix(matrix) => matrix.steepness(),
-            Step::Curves(curves) => curves.steepness(),
-            Step::Lattice(lattice) => lattice.steepness(),
-        }
-    }
-
-    fn error(&self) -> u32 {
-        match self {
-            Step::Matrix(matrix) => matrix.error(),
-            Step::Curves(curves) => curves.error(),
-            Step::Lattice(lattice) => lattice.error(),
-        }
-    }
-
-    fn answer(&self, colour: &Colour) -> Colour {
-        match self {
-            Step::Matrix(matrix) => matrix.answer(colour),
-            Step::Curves(curves) => curves.answer(colour),
-            Step::Lattice(lattice) => lattice.answer(colour),
-        }
-    }
-}
+use meaning::{CHANNELS, hundred_thousandths};
+use stage::{Chain, Colour, Rated, Stage};
+use std::array;
 
 // A bound in grains, and in counts with five decimals.
 fn print_bound(rt: &HostRuntime, grains: u32) -> anyhow::Result<()> {
@@ -90,15 +19,27 @@ fn print_bound(rt: &HostRuntime, grains: u32) -> anyhow::Result<()> {
     Ok(())
 }
 
-// A row of a job, to be sent through the chain of the job's stages.
-#[derive(Clone, Copy)]
-struct RowRun<'a> {
+// What a stage tells of itself.
+fn print_stage<S: Stage>(rt: &HostRuntime, name: &str, stage: &S) -> anyhow::Result<()> {
+    let ins = stage.ins().number();
+    let outs = stage.outs().number();
+    let steepness = stage.steepness();
+    let error = stage.error();
+    println!(rt;
+        "  {name}: {ins} to {outs} channels, steepness {steepness} grains a count, error {error} grains"
+    )?;
+    Ok(())
+}
+
+// A row of a job, to be sent through the job's stages.
+#[derive_where(Clone, Copy)]
+struct RowRun<'a, S> {
     rt: &'a HostRuntime,
-    chain: &'a Chain<'a, Step<'a>>,
+    chain: &'a S,
     task: &'a RowTask,
 }
 
-impl RowRun<'_> {
+impl<S: Stage> RowRun<'_, S> {
     // The kinds are types, which no closure is generic over, so the two sides of a row are named one after the other.
     fn run(self) -> anyhow::Result<()> {
         match self.task.enters {
@@ -160,72 +101,72 @@ fn print_row<P: Sampled, Q: Sampled>(
     print_bound(rt, bound)
 }
 
-// What a stage tells of itself.
-fn print_stage<S: Stage>(rt: &HostRuntime, name: &str, stage: &S) -> anyhow::Result<()> {
-    let ins = stage.ins().number();
-    let outs = stage.outs().number();
-    let steepness = stage.steepness();
-    let error = stage.error();
-    println!(rt;
-        "  {name}: {ins} to {outs} channels, steepness {steepness} grains a count, error {error} grains"
-    )?;
+// Counts with a space before each.
+fn print_counts(rt: &HostRuntime, counts: &[u16]) -> anyhow::Result<()> {
+    for count in counts {
+        print!(rt; " {count}")?;
+    }
     Ok(())
 }
 
-// Curves over the tables of a job, or a sentence that says why there are none: `Curves::new` asks again what the reading
-// of the line has asked.
-fn curves_of(tables: &Tables) -> anyhow::Result<Step<'_>> {
-    let table = Table(tables.entries.as_slice());
-    let curves = Curves::new(tables.channels, tables.length, table).context(
-        "a table of curves has 2 to 4096 entries",
-    )?;
-    Ok(Step::Curves(curves))
-}
-
-// A lattice over the nodes of a job, or a sentence that says why there is none.
-fn lattice_of(nodes: &Nodes) -> anyhow::Result<Step<'_>> {
-    let table = Table(nodes.entries.as_slice());
-    let lattice = Lattice::new(nodes.ins, nodes.outs, nodes.grid, table).context(
-        "a lattice has 2 to 255 grid points",
-    )?;
-    Ok(Step::Lattice(lattice))
-}
-
-fn step_of(stage: &StageTask) -> anyhow::Result<Step<'_>> {
-    match stage {
-        StageTask::Matrix(coefficients) => Ok(Step::Matrix(Matrix::new(*coefficients))),
-        StageTask::Curves(tables) => curves_of(tables),
-        StageTask::Lattice(nodes) => lattice_of(nodes),
+// A colour of a job, and the answer to it.
+fn run_colour<S: Stage>(rt: &HostRuntime, chain: &S, counts: &[u16]) -> anyhow::Result<()> {
+    print!(rt; "  colour")?;
+    print_counts(rt, counts)?;
+    let takes = chain.ins().number();
+    if counts.len() != takes {
+        println!(rt; ": not run, since the stages take {takes} channels")?;
+        return Ok(());
     }
+    let colour: Colour = array::from_fn(|k| counts.get(k).copied().unwrap_or(0));
+    print!(rt; " ->")?;
+    print_counts(rt, &chain.answer(&colour)[..chain.outs().number()])?;
+    println!(rt; "")?;
+    print_bound(rt, chain.error())
 }
 
-// The stages of a job in their order, each printed as it is made.
-fn steps_of<'a>(rt: &HostRuntime, job: &'a Job) -> anyhow::Result<Vec<Step<'a>>> {
+// Everything that a job asks for, in the order of its lines.
+fn run_tasks<S: Stage>(rt: &HostRuntime, chain: &S, tasks: &[Task]) -> anyhow::Result<()> {
+    for task in tasks {
+        match task {
+            Task::Row(task) => RowRun { rt, chain, task }.run()?,
+            Task::Colour(counts) => run_colour(rt, chain, counts.as_slice())?,
+        }
+    }
+    Ok(())
+}
+
+// Prints the stages of a job, and what they tell together where there is more than one, and runs what it asks for.
+fn run_stages(rt: &HostRuntime, job: &Job) -> anyhow::Result<()> {
     let mut steps = Vec::new(rt.alloc());
     for stage in job.stages.iter() {
-        let step = step_of(stage)?;
+        let step = Step::of(stage);
         print_stage(rt, step.name(), &step)?;
         steps.push(step)?;
     }
-    Ok(steps)
+    let chain = Chain::new(steps.as_slice()).context(
+        "a job has one stage or more: matrix, curves, lattice or profile",
+    )?;
+    let rated = Rated::new(chain);
+    if steps.len() > 1 {
+        print_stage(rt, "joined", &rated)?;
+    }
+    run_tasks(rt, &rated, job.tasks.as_slice())
 }
 
-// Prints the stages of a job, and what they tell together where there is more than one, and runs its rows.
-pub(crate) fn run(rt: &HostRuntime, job: &Job) -> anyhow::Result<()> {
-    let steps = steps_of(rt, job)?;
-    let chain = Chain::new(steps.as_slice()).context(
-        "a job has one stage or more: matrix, curves or lattice",
-    )?;
-    if steps.len() > 1 {
-        print_stage(rt, "joined", &chain)?;
+// Opens the profiles of a job, prints what they tell together, and runs what the job asks for.
+fn run_profiles(rt: &HostRuntime, job: &Job, folder: &str) -> anyhow::Result<()> {
+    let files = files_of(rt, job.profiles.as_slice(), folder)?;
+    let rated = Rated::new(opened(rt, job.profiles.as_slice(), files.as_slice())?);
+    print_stage(rt, "profiles", &rated)?;
+    run_tasks(rt, &rated, job.tasks.as_slice())
+}
+
+// Runs a job, whose profiles lie in a folder.
+pub(crate) fn run(rt: &HostRuntime, job: &Job, folder: &str) -> anyhow::Result<()> {
+    if job.profiles.is_empty() {
+        run_stages(rt, job)
+    } else {
+        run_profiles(rt, job, folder)
     }
-    for task in job.rows.iter() {
-        RowRun {
-            rt,
-            chain: &chain,
-            task,
-        }
-        .run()?;
-    }
-    Ok(())
 }
