@@ -33,7 +33,7 @@ equal_out m l x y vx vy h =
     same_trans (m.exact x) (m.exact x') (m.exact y) (l.stays x' (valid_scale y.den x vy.positive vx)).positive back on
 
 -- what is near by one figure and by the full range is near by the smaller of both
-near_least : (n : ℕ) (x y : Exact) → Near full_range grains x y → Near n grains x y → Near (min full_range n) grains x y
+pub near_least : (n : ℕ) (x y : Exact) → Near full_range grains x y → Near n grains x y → Near (min full_range n) grains x y
 near_least n x y any h =
     let P : ℕ → Type 0 = λ m. Near m grains x y in
     ⊎_elim

@@ -23,7 +23,7 @@ use Rattle.meaning.proofs.ExactLaws.{half_lawful}
 -- ---- the numbers of nodes, whose index in channel k is x k
 
 -- the indices that come first count g ^ n for each step
-numbered_split : (g : ℕ) (x : ℕ → ℕ) (a k n : ℕ) → numbered g a (map x (range_with_len k n)) ≡ a * g ^ n + numbered g 0 (map x (range_with_len k n))
+pub numbered_split : (g : ℕ) (x : ℕ → ℕ) (a k n : ℕ) → numbered g a (map x (range_with_len k n)) ≡ a * g ^ n + numbered g 0 (map x (range_with_len k n))
 numbered_split g x a k zero = rw (pow-zero g) (omega arith)
 numbered_split g x a k (suc n) =
     let left = numbered_split g x (a * g + x k) (k + 1) n in
@@ -31,7 +31,7 @@ numbered_split g x a k (suc n) =
     rw (left, right, pow-suc g n) (omega arith)
 
 -- the other ones number less than that
-numbered_limit : (g : ℕ) (x : ℕ → ℕ) → ((k : ℕ) → x k < g) → (k n : ℕ) → numbered g 0 (map x (range_with_len k n)) < g ^ n
+pub numbered_limit : (g : ℕ) (x : ℕ → ℕ) → ((k : ℕ) → x k < g) → (k n : ℕ) → numbered g 0 (map x (range_with_len k n)) < g ^ n
 numbered_limit g x h k zero = rw (pow-zero g) (omega arith)
 numbered_limit g x h k (suc n) =
     let rest = numbered_limit g x h (k + 1) n in
@@ -41,12 +41,12 @@ numbered_limit g x h k (suc n) =
 -- ---- shifts of samples
 
 -- the shift of channel k: u in front, s behind
-abbrev pair : ℕ → ℕ → ℕ → ℕ
+abbrev pub pair : ℕ → ℕ → ℕ → ℕ
 pair u s zero = u
 pair u s (suc _) = s
 
 -- both are below D
-pair_limit : (D u s : ℕ) → u < D → s < D → (k : ℕ) → pair u s k < D
+pub pair_limit : (D u s : ℕ) → u < D → s < D → (k : ℕ) → pair u s k < D
 pair_limit D u s hu hs zero = hu
 pair_limit D u s hu hs (suc k) = hs
 

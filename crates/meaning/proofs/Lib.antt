@@ -9,6 +9,10 @@ pub mod TableLaws
 pub mod CurveLaws
 pub mod Tetrahedra
 pub mod LatticeLaws
+pub mod Digits
+pub mod Baking
+pub mod Means
+pub mod LinkLaws
 pub mod Worked
 pub mod RowSums
 pub mod MatrixLaws

@@ -1,6 +1,8 @@
 -- What rounding to the nearest whole number, halves upward, keeps. Assumes nothing.
-use Rattle.std.proofs.Common.{◌≡◌, ℕ, zero, suc, ◌+◌, ◌-◌, ◌*◌, ◌<◌, ◌≤◌, refl, mul_comm, div-lt_iff_lt-mul, div-mul-le_self, arith}
+use Rattle.std.proofs.Common.{◌≡◌, ℕ, zero, suc, ◌+◌, ◌-◌, ◌*◌, ◌<◌, ◌≤◌, sym, refl, mul_comm, div-lt_iff_lt-mul, div-mul-le_self, arith}
 use native.Mathlib.Nat.{lt-div-mul-add, div-eq_of_lt-le, div-eq_of_lt}
+use Rattle.std.specs.Int.{div_ceil}
+use Rattle.std.proofs.lemmas.Grind.{div_ceil_times}
 use Rattle.meaning.specs.Colours.{rounded, ceiling}
 
 -- a rounded value is at most half above, and less than half below
@@ -32,3 +34,9 @@ rounded_whole m d p = div-eq_of_lt-le (2 * d) (omega arith) (omega arith)
 -- rounding up loses nothing
 pub ceiling_covers : (a d : ℕ) → 0 < d → a ≤ ceiling a d * d
 ceiling_covers a d p = let h = lt-div-mul-add {a = a + (d - 1)} {b = d} p in omega arith
+
+-- rounding up as `div_ceil` does it
+pub div_ceil_is : (a d : ℕ) → 0 < d → div_ceil a d ≡ ceiling a d
+div_ceil_is a d p =
+    let times = div_ceil_times a d p in
+    sym (div-eq_of_lt-le d (omega arith) (omega arith))

@@ -69,4 +69,6 @@ worked_figures_lem = record {
   equal_channels = rw (level (output 1 eight_nodes 0) 0);
   cube_steepness = cube_steepness_is;
   half_faded = rw fading;
+  fine_link = λ m nodes e l. rw (e, l);
+  coarse_link = λ m nodes e l. rw (e, l);
 }

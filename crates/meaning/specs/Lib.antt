@@ -5,4 +5,5 @@ pub mod Sums
 pub mod Curves
 pub mod Lattices
 pub mod Matrices
+pub mod Links
 pub mod WorkedFigures

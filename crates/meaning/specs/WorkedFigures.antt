@@ -1,11 +1,12 @@
 -- Worked figures, stated of the same meanings that the contracts use.
 use Rattle.std.specs.Prelude.{◌≡◌, ℕ, List, [], ◌∷◌, ◌++◌, replicate, pos, negsuc}
 use Rattle.meaning.specs.declared.Channels.TheVariants.{One, Three, Four}
-use Rattle.meaning.specs.Colours.{at}
+use Rattle.meaning.specs.Colours.{full_range, at}
 use Rattle.meaning.specs.Stages.{Meaning, joined}
 use Rattle.meaning.specs.Curves.{curves}
 use Rattle.meaning.specs.Lattices.{lattice}
 use Rattle.meaning.specs.Matrices.{matrix}
+use Rattle.meaning.specs.Links.{error_of_link, link}
 
 -- a gray curve of three entries: 0, 1,000 and 65,535
 abbrev pub bent_curve : Meaning
@@ -54,6 +55,9 @@ pub record WorkedFigures : Type 0 where
   pub cube_steepness : cube.steepness ≡ 166003
   -- four channels: 17,999.7 and a little more, rounded upward
   pub half_faded : fading_cube.answer (colour 32768 39321 39321 39321) ≡ colour 18000 0 0 0
+  -- links of a stage that errs by a count and a half and rises by a count a count, with 33 grid points and with 2
+  pub fine_link : (m : Meaning) (nodes : List ℕ) → m.error ≡ 98304 → m.steepness ≡ 65536 → (link m 33 nodes).error ≡ 134379520
+  pub coarse_link : (m : Meaning) (nodes : List ℕ) → m.error ≡ 98304 → m.steepness ≡ 65536 → (link m 2 nodes).error ≡ full_range
 
 -- the figures of curves, matrices and joining as numbers, in that order; the carried error is that of the curve after itself
 abbrev pub figures : List ℕ
@@ -77,3 +81,7 @@ cube_figures =
 
 abbrev pub fading_figures : List ℕ
 fading_figures = at (fading_cube.answer (colour 32768 39321 39321 39321)) 0 ∷ []
+
+-- the errors of these links, with 33 grid points and with 2
+abbrev pub link_figures : List ℕ
+link_figures = error_of_link 98304 65536 33 ∷ error_of_link 98304 65536 2 ∷ []

@@ -7,9 +7,10 @@ ghost use Rattle.std.specs.Prelude.{◌≡◌, ◌*◌, ◌==◌, None, Some, if
 ghost use Rattle.meaning.specs.Colours.{ceiling, half_count, number};
 ghost use Rattle.meaning.specs.Curves.{CurvesKeepTheLaws, steepness_of_curve};
 ghost use Rattle.meaning.specs.Lattices.{LatticesKeepTheLaws};
+ghost use Rattle.meaning.specs.Links.{LinksAreClose, NodesAreNumbered, error_of_link};
 ghost use Rattle.meaning.specs.Matrices.{MatricesKeepTheLaws, RowsAreSignedSums};
 ghost use Rattle.meaning.specs.Stages.{EqualInEqualOut, JoiningKeepsTheLaws, error_of_joined, steepness_of_joined, unclaimed};
-ghost use Rattle.meaning.specs.WorkedFigures.{WorkedFigures, cube_figures, fading_figures, figures};
+ghost use Rattle.meaning.specs.WorkedFigures.{WorkedFigures, cube_figures, fading_figures, figures, link_figures};
 
 // The channels of a colour.
 pub const CHANNELS: usize = 4;
@@ -80,6 +81,16 @@ fn rows_are_signed_sums()
     ensures { RowsAreSignedSums }
 {}
 
+// Names the theorem: a baked link answers within its error of the exact value of its stage.
+fn links_are_close()
+    ensures { LinksAreClose }
+{}
+
+// Names the theorem: the nodes of a link are counted in lattice order, as in every lattice.
+fn nodes_are_numbered()
+    ensures { NodesAreNumbered }
+{}
+
 // Names the worked figures, as one statement.
 fn figures_hold()
     ensures { WorkedFigures }
@@ -120,6 +131,25 @@ pub fn joined_error(steepness: u32, first: u32, second: u32) -> u32
     };
     let carried = (u64::from(steepness) * u64::from(first)).div_ceil(u64::from(GRAINS));
     (carried + u64::from(second)).min(u64::from(FULL_RANGE)) as u32
+}
+
+// The error of a link with `grid` grid points, baked from a stage with this error and steepness. With it, a baked link
+// is close to the exact map of its stage; and its nodes are counted in lattice order.
+#[tactic(auto, using(crate::proofs::Rounding::div_ceil_is))]
+pub fn link_error(error: u32, steepness: u32, grid: u8) -> u32
+    ensures value { result ≡ error_of_link error steepness grid }
+    ensures law { LinksAreClose }
+    ensures numbered { NodesAreNumbered }
+{
+    links_are_close();
+    nodes_are_numbered();
+    let (Some(steepness), 2..) = (claimed(steepness), grid) else {
+        return FULL_RANGE;
+    };
+    let steps = u64::from(grid - 1);
+    let rise = u64::from(steepness) * (2 * u64::from(MAX_COUNT) + steps);
+    let carried = rise.div_ceil(2 * steps);
+    (u64::from(error) + carried + u64::from(HALF_COUNT)).min(u64::from(FULL_RANGE)) as u32
 }
 
 // The steepness of tables with `points` points along a channel, where one step in every channel at once moves the
@@ -166,6 +196,8 @@ pub struct Figures {
     pub cube: [u32; 4],
     // One answer of a lattice of four channels.
     pub fading_cube: [u32; 1],
+    // The errors of a link with 33 grid points, and of one with 2.
+    pub link: [u32; 2],
 }
 
 // The worked figures, which hold of the definitions.
@@ -174,11 +206,13 @@ pub fn worked_figures() -> Figures
     ensures told { result.curves ≡ figures }
     ensures cube { result.cube ≡ cube_figures }
     ensures fading { result.fading_cube ≡ fading_figures }
+    ensures link { result.link ≡ link_figures }
 {
     figures_hold();
     Figures {
         curves: [1_000, 1_001, 129_072, 3_001, 0, 97_304],
         cube: [15_200, 13_400, 36_000, 166_003],
         fading_cube: [18_000],
+        link: [134_379_520, 4_294_901_760],
     }
 }
