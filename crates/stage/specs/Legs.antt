@@ -1,5 +1,5 @@
 -- Legs of a lattice: where the samples of one channel come to, and three legs in falling order.
-use Rattle.std.specs.Prelude.{ℕ, ◌+◌, ◌-◌, ◌*◌, ◌/◌, ◌%◌, ◌≤◌, cond, List, [], ◌∷◌, nat_lt}
+use Rattle.std.specs.Prelude.{◌≡◌, ℕ, ◌+◌, ◌-◌, ◌*◌, ◌/◌, ◌%◌, ◌^◌, ◌≤◌, cond, List, [], ◌∷◌, nat_lt}
 use Rattle.meaning.specs.Colours.{at}
 use Rattle.stage.specs.declared.legs.Leg.{Leg}
 
@@ -38,6 +38,12 @@ pub record Falling (t : Three) : Type 0 where
   pub first : t.most.rest ≤ 65535
   pub second : t.middle.rest ≤ t.most.rest
   pub third : t.least.rest ≤ t.middle.rest
+
+-- what three legs are kept with: their rests fall, and the entries before the nodes below are added up
+pub record Kept (start : ℕ) (t : Three) : Type 0 where
+  pub falling : Falling t
+  pub together : start ≡ start_of t.most + start_of t.middle + start_of t.least
+  pub limit : start ≤ 2 ^ 42
 
 -- the leg of a channel that is not there
 abbrev pub idle : Leg

@@ -60,12 +60,20 @@ pub(crate) fn node_count(grid: u8, channels: usize) -> usize
     usize::from(grid).pow(channels as u32)
 }
 
+// How many nodes a lattice has.
+pub fn lattice_nodes(ins: Channels, grid: u8) -> usize
+    ensures value { result ≡ grid ^ number ins }
+    ensures limit { result ≤ 2 ^ 32 }
+{
+    node_count(grid, ins.number())
+}
+
 // How many entries all nodes of a lattice have, one for each output of each node.
 pub fn lattice_entries(ins: Channels, outs: Channels, grid: u8) -> usize
     ensures value { result ≡ entries_of_lattice ins outs grid }
     ensures limit { result ≤ 2 ^ 34 }
 {
-    node_count(grid, ins.number()) * outs.number()
+    lattice_nodes(ins, grid) * outs.number()
 }
 
 impl<E: Entries> Lattice<E> {
@@ -160,7 +168,13 @@ impl<E: Entries> Lattice<E> {
         ensures value { result ≡ sum_below 65535 (λ s. entry (E.Entries.counts self.now.table) (place + reach_all legs.now s)) }
         ensures limit { result ≤ 65535 * 65535 }
     {
-        legs.weigh(legs.corners(place).map(|corner| self.entry(corner)))
+        let [base, second, third, last] = legs.corners(place);
+        legs.weigh(
+            self.entry(base),
+            self.entry(second),
+            self.entry(third),
+            self.entry(last),
+        )
     }
 
     // All outputs of the answer.

@@ -1,8 +1,7 @@
 // Legs: the step that samples take along one channel of a lattice, from a node to its neighbour, and the three
 // steps that lead from corner to corner of a tetrahedron.
-ghost use Rattle.std.specs.Prelude.{◌≡◌, ◌+◌, ◌-◌, ◌*◌, ◌^◌, ◌≤◌};
-ghost use Rattle.meaning.specs.Colours.{at};
-ghost use Rattle.stage.specs.Legs.{leg, start_of, ordered, Three, Falling, sorted, corners_from, weighed};
+ghost use Rattle.std.specs.Prelude.{◌≡◌, ◌+◌, ◌-◌, ◌*◌, ◌^◌, ◌≤◌, [], ◌∷◌};
+ghost use Rattle.stage.specs.Legs.{leg, start_of, ordered, Three, Falling, Kept, sorted, corners_from, weighed};
 
 use crate::weighing::SAMPLES;
 use meaning::MAX_COUNT;
@@ -17,9 +16,10 @@ pub(crate) struct Leg {
     pub rest: u16,
 }
 
-// Three legs, the one that most samples take first.
+// Three legs, the one that most samples take first, and the entries before the nodes below, of all three.
 #[derive(Drop)]
 pub(crate) struct Legs {
+    start: usize,
     most: Leg,
     middle: Leg,
     least: Leg,
@@ -30,7 +30,7 @@ impl Model for Legs {
 
     ghost view = { λ t. record { most = t.most; middle = t.middle; least = t.least } };
 
-    ghost invariant = { λ t. Falling (record { most = t.most; middle = t.middle; least = t.least }) };
+    ghost invariant = { λ t. Kept t.start (record { most = t.most; middle = t.middle; least = t.least }) };
 }
 
 // The leg of a channel that a lattice does not have. No sample takes it, so that one sum of corners serves one channel and
@@ -84,10 +84,12 @@ impl Legs {
     pub(crate) fn sorted(a: Leg, b: Leg, c: Leg) -> Legs
         ensures { result ≡ sorted a b c }
     {
+        let start = a.start() + b.start() + c.start();
         let (a, b) = falling(a, b);
         let (b, c) = falling(b, c);
         let (a, b) = falling(a, b);
         Legs {
+            start,
             most: a,
             middle: b,
             least: c,
@@ -100,7 +102,7 @@ impl Legs {
         ensures places { result ≡ corners_from self.now place }
         ensures order { Falling self.now }
     {
-        let base = place + self.most.start() + self.middle.start() + self.least.start();
+        let base = place + self.start;
         let second = base + self.most.stride as usize;
         let third = second + self.middle.stride as usize;
         [base, second, third, third + self.least.stride as usize]
@@ -108,11 +110,10 @@ impl Legs {
 
     // The counts at the corners, each weighed by the samples that read it. Each function that hands such a sum on states
     // its `limit`; a type that carried it would need the same proofs.
-    pub(crate) fn weigh(&self, counts: [u16; 4]) -> u32
-        ensures value { result ≡ weighed self.now counts }
+    pub(crate) fn weigh(&self, base: u16, second: u16, third: u16, last: u16) -> u32
+        ensures value { result ≡ weighed self.now (base ∷ second ∷ third ∷ last ∷ []) }
         ensures limit { result ≤ 65535 * 65535 }
     {
-        let [base, second, third, last] = counts;
         let (most, middle, least) = (self.most.rest, self.middle.rest, self.least.rest);
         read_by(MAX_COUNT - most, base)
             + read_by(most - middle, second)

@@ -21,7 +21,7 @@ pub use chain::Chain;
 pub use curves::{Curves, TableLength};
 pub use entries::{Entries, NarrowBytes, NodeTable, Table, WideBytes};
 pub use joined::Joined;
-pub use lattice::{Grid, Lattice, lattice_entries};
+pub use lattice::{Grid, Lattice, lattice_entries, lattice_nodes};
 pub use matrix::Matrix;
 pub use rated::Rated;
 pub use samples::Sample;
