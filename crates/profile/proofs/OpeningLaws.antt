@@ -7,11 +7,9 @@ use Rattle.profile.specs.declared.opening.Opened.{Opened}
 use Rattle.profile.specs.declared.tag.Tag.{Tag}
 use Rattle.profile.specs.Checks.{ruled, Passing, FirstFailing}
 use Rattle.profile.specs.Directories.{directory_checks, found}
-use Rattle.profile.specs.Elements.{element_checks, layout}
 use Rattle.profile.specs.Headers.{header_checks, header, space_in, space_out}
 use Rattle.profile.specs.Layouts.{Layout}
 use Rattle.profile.specs.Opening.{between, checks, checks_of_element, opening, opened, viewed}
-use Rattle.profile.specs.Spaces.{channels_of}
 use Rattle.profile.specs.Tags.{signature}
 use Rattle.profile.proofs.CheckLaws.{passed, passes, fails, after, before, all_pass, first_fails}
 

@@ -1,5 +1,5 @@
 -- The tables of an element behind its first bytes: their sizes, the check that they fit, and where they lie.
-use Rattle.std.specs.Prelude.{ℕ, ◌+◌, ◌*◌, List, [], ◌∷◌, ◌++◌, length, take, drop, nat_le, Option, Some, None}
+use Rattle.std.specs.Prelude.{ℕ, ◌+◌, ◌*◌, List, [], ◌∷◌, ◌++◌, length, take, drop, nat_le, Option, Some, None, Result}
 use Rattle.meaning.specs.declared.Channels.{Channels}
 use Rattle.meaning.specs.declared.Channels.TheVariants.{One, Three, Four}
 use Rattle.meaning.specs.Colours.{number}
@@ -8,7 +8,7 @@ use Rattle.stage.specs.declared.matrix.Matrix.{Matrix}
 use Rattle.profile.specs.declared.fault.Fault.{Fault}
 use Rattle.profile.specs.declared.fault.Fault.TheVariants.{Tables}
 use Rattle.profile.specs.declared.reading.Shape.{Shape}
-use Rattle.profile.specs.Checks.{Check}
+use Rattle.profile.specs.Checks.{Check, ruled}
 use Rattle.profile.specs.Kinds.{head, width}
 use Rattle.profile.specs.Layouts.{Stretch, Layout}
 use Rattle.profile.specs.Shapes.{shape_checks, shape, coefficients}
@@ -74,3 +74,8 @@ laid_out e at s = record {
 -- what an element holds
 abbrev pub layout : List ℕ → ℕ → Channels → Channels → Layout
 layout e at i o = laid_out e at (shape e i o)
+
+-- what reading some bytes that are an element answers: what they hold, or the fault of the first check that fails; places
+-- count from their first byte
+abbrev pub element_read : List ℕ → Channels → Channels → Result Layout Fault
+element_read e i o = ruled (element_checks e 0 i o) (layout e 0 i o)

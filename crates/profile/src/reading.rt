@@ -1,7 +1,7 @@
 // Reading an element: its first bytes tell its shape, and its tables lie behind them.
 ghost use Rattle.std.specs.Prelude.{◌≡◌, ◌+◌, ◌^◌, ◌<◌, ◌≤◌, take, drop, length};
 ghost use Rattle.profile.specs.Checks.{ruled};
-ghost use Rattle.profile.specs.Elements.{input_size, nodes_size, output_size, tables_end, input_table, nodes_table, output_table, table_checks, element_checks, laid_out, layout};
+ghost use Rattle.profile.specs.Elements.{input_size, nodes_size, output_size, tables_end, input_table, nodes_table, output_table, table_checks, element_checks, laid_out, layout, element_read};
 ghost use Rattle.profile.specs.Views.{part_view, element_view, element_viewed, stages_over};
 ghost use Rattle.profile.specs.Shapes.{input_length, output_length, shape_checks, shape, coefficients, coefficient_at};
 
@@ -242,5 +242,15 @@ impl<'a> Reader<'a> {
         let shape = self.shape(takes, gives)?;
         self.check_tables(&shape)?;
         Ok(self.element(&shape))
+    }
+}
+
+impl<'a> Element<'a> {
+    // The element that some bytes hold, between spaces of some channels, or the first fault. Places count from the first
+    // of these bytes.
+    pub fn read(bytes: &'a [u8], takes: Channels, gives: Channels) -> Result<Element<'a>, Fault>
+        ensures { element_viewed result ≡ element_read bytes.now takes gives }
+    {
+        Reader { place: 0, bytes }.read(takes, gives)
     }
 }
