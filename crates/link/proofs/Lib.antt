@@ -1,1 +1,12 @@
 pub mod RowLaws
+pub mod FillLaws
+pub mod NodeSteps
+pub mod StateLaws
+pub mod LogLaws
+pub mod RunLaws
+pub mod LinkRows
+pub mod RefusalLaws
+pub mod WritingLaws
+pub mod StraightLaws
+pub mod ReadBack
+pub mod WriteLaws

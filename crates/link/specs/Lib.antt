@@ -3,3 +3,9 @@ pub mod Pixels
 pub mod PixelLaws
 pub mod Refusals
 pub mod Rows
+pub mod Walks
+pub mod Written
+pub mod States
+pub mod Calls
+pub mod Runs
+pub mod ReadBack

@@ -1,22 +1,44 @@
--- Refusals: their numbers and sentences, and what a call that may refuse answers and leaves.
-use Rattle.std.specs.Prelude.{ℕ, List, Some, None, Ok, Err, Option, Result, codes}
+-- Refusals: their numbers and sentences, the order of checks, and what a call that may refuse answers and leaves.
+use Rattle.std.specs.Prelude.{ℕ, Bool, cond, List, [], ◌∷◌, Some, None, Ok, Err, Option, Result, codes}
 use Rattle.link.specs.declared.refusal.Refusal.{Refusal}
-use Rattle.link.specs.declared.refusal.Refusal.TheVariants.{RowLengths, PixelChannels}
+use Rattle.link.specs.declared.refusal.Refusal.TheVariants.{RowLengths, PixelChannels, GridPoints, TableLength, NoLink, FullLink, FillingLink, OutputLength}
 
 -- the number by which a refusal is reported
 abbrev pub number_of : Refusal → ℕ
 number_of RowLengths = 30
 number_of PixelChannels = 31
+number_of GridPoints = 32
+number_of TableLength = 33
+number_of NoLink = 34
+number_of FullLink = 35
+number_of FillingLink = 36
+number_of OutputLength = 37
 
 -- the sentence that tells why, as ASCII text
 abbrev pub sentence_of : Refusal → List ℕ
 sentence_of RowLengths = codes "the two rows are not equally long"
 sentence_of PixelChannels = codes "the pixels' channels are not the stage's"
+sentence_of GridPoints = codes "a link has 2 to 33 grid points"
+sentence_of TableLength = codes "the node table is shorter than the link"
+sentence_of NoLink = codes "there is no link"
+sentence_of FullLink = codes "the link is full already"
+sentence_of FillingLink = codes "the link is still filling"
+sentence_of OutputLength = codes "the output is shorter than the written link"
+
+-- a test, and the refusal where it fails; the first that fails refuses the call
+abbrev pub refusal : List (Bool × Refusal) → Option Refusal
+refusal [] = None
+refusal (check ∷ checks) = cond check.0 (refusal checks) (Some check.1)
 
 -- what a call answers: its value, or why it was refused
 abbrev pub answered : {A : Type 0} → Option Refusal → A → Result A Refusal
 answered None a = Ok a
 answered (Some e) a = Err e
+
+-- why a call was refused, as its answer tells
+abbrev pub refused : {A : Type 0} → Result A Refusal → Option Refusal
+refused (Ok a) = None
+refused (Err e) = Some e
 
 -- what a call leaves: a refused call leaves things as they stood
 abbrev pub left : {A : Type 0} → Option Refusal → A → A → A

@@ -1,5 +1,5 @@
 -- A row of pixels sent through a stage: when it is refused, what it leaves, and how near that is to the exact values.
-use Rattle.std.specs.Prelude.{◌≡◌, ℕ, ◌+◌, ◌<◌, min, cond, ◌&&◌, List, map, length, Some, None, Option, Result, ◌==◌, slice_index_or}
+use Rattle.std.specs.Prelude.{◌≡◌, ℕ, ◌+◌, ◌<◌, min, ◌&&◌, Bool, List, [], ◌∷◌, map, length, Option, Result, ◌==◌, slice_index_or}
 use Rattle.meaning.specs.declared.Channels.{Channels}
 use Rattle.meaning.specs.Colours.{grains, full_range, number, at, num, Exact, whole}
 use Rattle.meaning.specs.Distances.{Over}
@@ -7,14 +7,16 @@ use Rattle.meaning.specs.Stages.{Meaning}
 use Rattle.link.specs.declared.refusal.Refusal.{Refusal}
 use Rattle.link.specs.declared.refusal.Refusal.TheVariants.{RowLengths, PixelChannels}
 use Rattle.link.specs.Kinds.{Kind}
-use Rattle.link.specs.Refusals.{answered, left}
+use Rattle.link.specs.Refusals.{refusal, answered, left}
 
--- why a row is refused: its pixels have not the stage's channels, or another number of pixels enters than leaves
+-- what is tested of a row: its pixels have the stage's channels, and as many leave as enter
+abbrev pub row_checks : Meaning → Channels → Channels → ℕ → ℕ → List (Bool × Refusal)
+row_checks m enters leaves entering leaving =
+    (number m.ins == number enters && number m.outs == number leaves, PixelChannels) ∷ (entering == leaving, RowLengths) ∷ []
+
+-- why it is refused
 abbrev pub row_refusal : Meaning → Channels → Channels → ℕ → ℕ → Option Refusal
-row_refusal m enters leaves entering leaving =
-    cond (number m.ins == number enters && number m.outs == number leaves)
-    (cond (entering == leaving) None (Some RowLengths))
-    (Some PixelChannels)
+row_refusal m enters leaves entering leaving = refusal (row_checks m enters leaves entering leaving)
 
 -- the error bound of a row, in grains: the stage's error and the leaving kind's, held to the full range
 abbrev pub row_bound : Meaning → ℕ → ℕ

@@ -10,6 +10,18 @@ pub enum Refusal {
     RowLengths,
     // The stage has other channels than the pixels.
     PixelChannels,
+    // A link has 2 to 33 grid points.
+    GridPoints,
+    // The node table is shorter than the link.
+    TableLength,
+    // There is no link: none was begun, or the last one was dropped.
+    NoLink,
+    // A full link has nothing to fill.
+    FullLink,
+    // The link has nodes that are not filled yet.
+    FillingLink,
+    // The output is shorter than the written link.
+    OutputLength,
 }
 
 impl Refusal {
@@ -20,6 +32,12 @@ impl Refusal {
         match self {
             Refusal::RowLengths => 30,
             Refusal::PixelChannels => 31,
+            Refusal::GridPoints => 32,
+            Refusal::TableLength => 33,
+            Refusal::NoLink => 34,
+            Refusal::FullLink => 35,
+            Refusal::FillingLink => 36,
+            Refusal::OutputLength => 37,
         }
     }
 }
@@ -32,6 +50,12 @@ impl fmt::Display for Refusal {
         match self {
             Refusal::RowLengths => f.write_str("the two rows are not equally long"),
             Refusal::PixelChannels => f.write_str("the pixels' channels are not the stage's"),
+            Refusal::GridPoints => f.write_str("a link has 2 to 33 grid points"),
+            Refusal::TableLength => f.write_str("the node table is shorter than the link"),
+            Refusal::NoLink => f.write_str("there is no link"),
+            Refusal::FullLink => f.write_str("the link is full already"),
+            Refusal::FillingLink => f.write_str("the link is still filling"),
+            Refusal::OutputLength => f.write_str("the output is shorter than the written link"),
         }
     }
 }

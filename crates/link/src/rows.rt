@@ -11,7 +11,7 @@ use meaning::FULL_RANGE;
 use stage::Stage;
 
 // Why the row is refused, if it is: the channels are tested first, then the lengths.
-fn refused<S: Stage, P: Pixel, Q: Pixel>(
+pub(crate) fn pixels_refused<S: Stage, P: Pixel, Q: Pixel>(
     stage: &S,
     entering: &[P],
     leaving: &[Q],
@@ -52,9 +52,25 @@ fn convert<S: Stage, P: Pixel, Q: Pixel>(stage: &S, entering: &[P], leaving: &mu
     }
 }
 
+// Every row goes this way, whether through a stage or through a link: each entering pixel is converted, and the bound is
+// told, where `error` is that of the stage or link.
+pub(crate) fn deliver<S: Stage, P: Pixel, Q: Pixel>(
+    stage: &S,
+    error: u32,
+    entering: &[P],
+    leaving: &mut [Q],
+) -> u32
+    requires { length entering.now ≡ length leaving.old }
+    ensures bound { result ≡ min full_range (error + Q.Pixel.kind.error) }
+    ensures leaving { leaving.new ≡ row_pixels (S.Stage.meaning stage.now) P.Pixel.kind Q.Pixel.kind entering.now }
+{
+    convert(stage, entering, leaving);
+    bound(error, Q::error())
+}
+
 // The row call, pinned: what it answers and what it leaves. It stands apart from `row`, whose proof cites a theorem, so
 // that a wrong line is refused here and not in a proof.
-fn send<S: Stage, P: Pixel, Q: Pixel>(
+pub(crate) fn send<S: Stage, P: Pixel, Q: Pixel>(
     stage: &S,
     entering: &[P],
     leaving: &mut [Q],
@@ -62,11 +78,10 @@ fn send<S: Stage, P: Pixel, Q: Pixel>(
     ensures answer { result ≡ row_answer (S.Stage.meaning stage.now) P.Pixel.kind Q.Pixel.kind entering.now leaving.old }
     ensures leaving { leaving.new ≡ row_left (S.Stage.meaning stage.now) P.Pixel.kind Q.Pixel.kind entering.now leaving.old }
 {
-    if let Some(refusal) = refused(stage, entering, leaving) {
+    if let Some(refusal) = pixels_refused(stage, entering, leaving) {
         return Err(refusal);
     }
-    convert(stage, entering, leaving);
-    Ok(bound(stage.error(), Q::error()))
+    Ok(deliver(stage, stage.error(), entering, leaving))
 }
 
 // Sends each entering pixel through the stage, and writes what comes out at its place of the leaving row. Returns
