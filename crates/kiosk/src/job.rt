@@ -1,4 +1,4 @@
-// A job: the stages to run and the rows to run through them, read from a text. Each line of the text is
+// A job: the stages to run, and what to do with them, read from a text. Each line of the text is
 //     # a remark
 //     matrix E E E E E E E E E          nine coefficients in 65,536ths, row after row
 //     curves CHANNELS LENGTH ENTRY ..   tables of LENGTH entries, one after the other
@@ -6,7 +6,15 @@
 //     profile TAG FILE                  the element A2B0 or B2A0 of a profile, in place of other stages
 //     row ENTERS LEAVES SAMPLE ..       pixel kinds gray8, rgb8, cmyk8 or rgb16, and the entering samples
 //     colour COUNT ..                   one count for each channel
-// Stages and profiles run in the order of their lines.
+//     table COUNT                       lends so many numbers of the node table from here on, or all where it has fewer
+//     begin GRID                        begins a link with so many grid points
+//     fill BUDGET                       fills it, with so many nodes at most
+//     print ENTERS LEAVES SAMPLE ..     a row as a kiosk prints it: through the link where it is full, else directly
+//     link ENTERS LEAVES SAMPLE ..      a row through the link
+//     quote                             tells the bounds
+//     write                             writes the link as an element, reads it back and compares
+//     drop                              drops the link
+// Stages and profiles run in the order of their lines, and everything else is done in that order too.
 use meaning::Channels;
 use profile::Tag;
 use stage::{Grid, TableLength, lattice_entries};
@@ -100,11 +108,25 @@ pub(crate) struct RowTask {
     pub samples: Vec<u16>,
 }
 
-// What is asked for: a row or a colour to run.
+// What is asked for.
 #[derive(Drop)]
 pub(crate) enum Task {
+    // A row through the stage.
     Row(RowTask),
+    // A row through the link where it is full, else through the stage.
+    Print(RowTask),
+    // A row through the link.
+    LinkRow(RowTask),
     Colour(Vec<u16>),
+    // How many numbers of the node table are lent.
+    Table(usize),
+    // How many grid points the link has.
+    Begin(u32),
+    // How many nodes to store at most.
+    Fill(usize),
+    Quote,
+    Write,
+    Drop,
 }
 
 // An element of a profile, and the file that the profile is in.
@@ -125,7 +147,7 @@ pub(crate) struct Job {
 // What is wrong with a line, with an argument, or with the samples of a row.
 #[derive(Debug, Drop, Error)]
 pub(crate) enum Reason {
-    #[error("a line begins with matrix, curves, lattice, profile, row, colour or #")]
+    #[error("a line begins with matrix, curves, lattice, profile, row, colour, table, begin, fill, print, link, quote, write, drop or #")]
     UnknownWord,
     #[error("a matrix is nine whole numbers from -2147483648 to 2147483647")]
     NotNineCoefficients,
@@ -153,6 +175,14 @@ pub(crate) enum Reason {
     NotAPixelKind,
     #[error("a row has whole pixels, with samples up to 255 at 8 bits")]
     NotASample,
+    #[error("a node table is lent by one whole number, how many numbers of it")]
+    NotATableCount,
+    #[error("a link is begun with one whole number, its grid points")]
+    NotAGridNumber,
+    #[error("a link is filled with one whole number, how many nodes at most")]
+    NotABudget,
+    #[error("nothing stands behind quote, write and drop")]
+    NotAlone,
     #[error("there is not enough memory")]
     Memory(#[from(alloc)] AllocError),
 }
@@ -179,6 +209,26 @@ impl Words<'_> {
         T::Err: Drop,
     {
         self.rest.next()?.parse().ok()
+    }
+
+    // What the only word that is left stands for, if there is just one and it stands for something.
+    fn only<T: FromStr + Drop>(mut self) -> Option<T>
+    where
+        T::Err: Drop,
+    {
+        let value = self.value()?;
+        match self.rest.next() {
+            None => Some(value),
+            Some(_) => None,
+        }
+    }
+
+    // A task whose word stands alone.
+    fn alone(mut self, task: Task) -> Result<Task, Reason> {
+        match self.rest.next() {
+            None => Ok(task),
+            Some(_) => Err(Reason::NotAlone),
+        }
     }
 
     // A match on the words, since a parsed number would let 03 and +3 pass too.
@@ -277,6 +327,23 @@ impl Words<'_> {
             samples,
         })
     }
+
+    // The task that a line asks for, by its first word.
+    fn task(self, word: &str) -> Result<Task, Reason> {
+        match word {
+            "row" => Ok(Task::Row(self.row()?)),
+            "print" => Ok(Task::Print(self.row()?)),
+            "link" => Ok(Task::LinkRow(self.row()?)),
+            "colour" => Ok(Task::Colour(self.colour()?)),
+            "table" => Ok(Task::Table(self.only().ok_or(Reason::NotATableCount)?)),
+            "begin" => Ok(Task::Begin(self.only().ok_or(Reason::NotAGridNumber)?)),
+            "fill" => Ok(Task::Fill(self.only().ok_or(Reason::NotABudget)?)),
+            "quote" => self.alone(Task::Quote),
+            "write" => self.alone(Task::Write),
+            "drop" => self.alone(Task::Drop),
+            _ => Err(Reason::UnknownWord),
+        }
+    }
 }
 
 // The counts of a colour, as many as a stage may take.
@@ -347,10 +414,8 @@ impl Job {
             Some("curves") => self.take_stage(StageTask::Curves(words.tables()?)),
             Some("lattice") => self.take_stage(StageTask::Lattice(words.nodes()?)),
             Some("profile") => self.take_profile(words.profile()?),
-            Some("row") => self.take_task(Task::Row(words.row()?)),
-            Some("colour") => self.take_task(Task::Colour(words.colour()?)),
             Some(word) if word.starts_with('#') => Ok(()),
-            Some(_) => Err(Reason::UnknownWord),
+            Some(word) => self.take_task(words.task(word)?),
         }
     }
 
@@ -379,7 +444,7 @@ impl Job {
         Ok(())
     }
 
-    // One row or colour more.
+    // One task more.
     fn take_task(&mut self, task: Task) -> Result<(), Reason> {
         self.tasks.push(task)?;
         Ok(())
@@ -392,10 +457,10 @@ mod tests {
     use std::test::Fail;
 
     // Texts of one wrong line each, with what is said of it.
-    const WRONG: [(&str, &str); 25] = [
+    const WRONG: [(&str, &str); 34] = [
         (
             "bent 1 2 0 1",
-            "line 1: a line begins with matrix, curves, lattice, profile, row, colour or #",
+            "line 1: a line begins with matrix, curves, lattice, profile, row, colour, table, begin, fill, print, link, quote, write, drop or #",
         ),
         (
             "matrix 1 0 0 0 1 0 0 0",
@@ -475,6 +540,42 @@ mod tests {
         (
             "row gray8",
             "line 1: a pixel kind is gray8, rgb8, cmyk8 or rgb16",
+        ),
+        (
+            "print rgb8",
+            "line 1: a pixel kind is gray8, rgb8, cmyk8 or rgb16",
+        ),
+        (
+            "link rgb8 rgb8 65536",
+            "line 1: entries, samples and counts are whole numbers from 0 to 65535",
+        ),
+        (
+            "table -1",
+            "line 1: a node table is lent by one whole number, how many numbers of it",
+        ),
+        (
+            "table 8 9",
+            "line 1: a node table is lent by one whole number, how many numbers of it",
+        ),
+        (
+            "begin",
+            "line 1: a link is begun with one whole number, its grid points",
+        ),
+        (
+            "begin 4294967296",
+            "line 1: a link is begun with one whole number, its grid points",
+        ),
+        (
+            "fill all",
+            "line 1: a link is filled with one whole number, how many nodes at most",
+        ),
+        (
+            "quote\nwrite twice",
+            "line 2: nothing stands behind quote, write and drop",
+        ),
+        (
+            "drop 1",
+            "line 1: nothing stands behind quote, write and drop",
         ),
         (
             "curves 1 2 0 1\n# a remark\n\nmatrix 1 0 0 0 1 0 0 0 1\nbent",

@@ -4,10 +4,14 @@
 
 mod job;
 mod profiles;
+mod row_run;
 mod run;
 mod samples;
 mod selftest;
+mod shown;
 mod steps;
+mod work;
+mod written;
 
 use anyhow::{anyhow, bail};
 use job::{Job, tag_and_file};

@@ -2,10 +2,10 @@
 ghost use Rattle.std.specs.Prelude.{◌≡◌, Some, map};
 ghost use Rattle.std.specs.Option.{option_map};
 ghost use Rattle.std.specs.Iterator.{IsFinite};
-ghost use Rattle.meaning.specs.WorkedFigures.{figures, cube_figures, fading_figures};
+ghost use Rattle.meaning.specs.WorkedFigures.{figures, cube_figures, fading_figures, link_figures};
 
 use anyhow::{Context, anyhow};
-use meaning::{Channels, worked_figures};
+use meaning::{Channels, link_error, worked_figures};
 use stage::{Curves, Joined, Lattice, Matrix, Stage, Table};
 
 // A figure that a stage gives, beside its name.
@@ -106,6 +106,23 @@ fn measured_fading_cube() -> Option<Measured<1>>
     }]))
 }
 
+// The errors of a link, with the most grid points and with the fewest, of a stage that errs by a count and a half and rises by
+// a count a count.
+fn measured_link() -> Measured<2>
+    ensures { map (λ figure. figure.measured) result.0 ≡ link_figures }
+{
+    Measured([
+        Figure {
+            name: "error of a link with 33 grid points",
+            measured: link_error(98_304, 65_536, 33),
+        },
+        Figure {
+            name: "error of a link with 2 grid points",
+            measured: link_error(98_304, 65_536, 2),
+        },
+    ])
+}
+
 // Prints figures beside what is proved of them, and fails where some disagree.
 fn compare<I: Iterator<Item = (Figure, u32)> + Drop>(
     rt: &HostRuntime,
@@ -132,11 +149,13 @@ pub(crate) fn run(rt: &HostRuntime) -> anyhow::Result<()> {
     let Measured(fading) = measured_fading_cube().context(
         "the lattice of four channels was refused",
     )?;
+    let Measured(link) = measured_link();
     let proved = worked_figures();
     let curves = curves.into_iter().zip(proved.curves);
     let cube = cube.into_iter().zip(proved.cube);
     let fading = fading.into_iter().zip(proved.fading_cube);
-    compare(rt, curves.chain(cube).chain(fading))
+    let link = link.into_iter().zip(proved.link);
+    compare(rt, curves.chain(cube).chain(fading).chain(link))
 }
 
 #[cfg(test)]
