@@ -1,8 +1,9 @@
-// Works out the steepness of large lattices, for which their tables are read whole, and opens large profiles. How long that
-// took goes to standard error, since it differs from run to run.
+// Works out the steepness of large lattices, for which their tables are read whole, opens large profiles, and sends rows of
+// pixels through lattices. How long that took goes to standard error, since it differs from run to run.
 #![tactic(auto)]
 
 mod profiles;
+mod rows;
 
 use anyhow::Context;
 use meaning::Channels;
@@ -91,7 +92,10 @@ fn scan_all(rt: &HostRuntime) -> anyhow::Result<()> {
 }
 
 fn main(rt: HostRuntime) -> ExitCode {
-    match scan_all(&rt).and_then(|()| profiles::run(&rt)) {
+    match scan_all(&rt)
+        .and_then(|()| profiles::run(&rt))
+        .and_then(|()| rows::run(&rt))
+    {
         Ok(()) => ExitCode::SUCCESS,
         Err(error) => {
             let _ = eprintln!(rt; "bench: {error}");
