@@ -1,4 +1,4 @@
-// Chains of no stage, of one and of three.
+// Chains of no stage and of three.
 use crate::lattices::EIGHT;
 use meaning::Channels;
 use stage::{Chain, Curves, Joined, Lattice, NodeTable, Stage, Table};
@@ -14,19 +14,6 @@ const NEGATIVE: [u16; 24] = [
 fn a_chain_has_a_stage(rt: HostRuntime) {
     let none: [Curves<NodeTable<'static>>; 0] = [];
     assert!(rt; Chain::new(&none).is_none());
-}
-
-#[test]
-fn a_chain_of_one_stage_is_that_stage(rt: HostRuntime) -> Result<(), Fail> {
-    let line = Table(&[1u16, 2, 3, 4, 1_000, 0, 65_535, 60_000]);
-    let stages = [Lattice::new(Channels::One, Channels::Four, 2, line).ok_or("grid")?];
-    let chain = Chain::new(&stages).ok_or("no stage")?;
-    assert_eq!(rt; chain.ins(), Channels::One);
-    assert_eq!(rt; chain.outs(), Channels::Four);
-    assert_eq!(rt; chain.answer(&[13_107, 9, 9, 9]), [201, 2, 13_109, 12_003]);
-    assert_eq!(rt; chain.steepness(), 65_533);
-    assert_eq!(rt; chain.error(), 32_768);
-    Ok(())
 }
 
 // The same values as of two joined stages that are joined to a third.

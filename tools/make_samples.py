@@ -1,9 +1,13 @@
 #!/usr/bin/env python3
-"""Writes the small profiles that the jobs of the tool open: tools/make_profiles.py [FOLDER]
+"""Writes the small profiles and pictures that the repository ships, so that nobody has to find some to try the engine:
 
-Each has what the engine looks at of an ICC version 2 profile, with its numbers by rule and no device behind it: an RGB device
-and Lab, both ways, by lut16s, one with a matrix that counts; a CMYK device and Lab, both ways, by lut16s; an RGB device to
-XYZ by a lut8; and a gray device to Lab by a lut8.
+    tools/make_samples.py [FOLDER]           into the folder, or where they are shipped
+    tools/make_samples.py --check [FOLDER]   says whether the files there are what would be written
+
+Each profile has what the engine looks at of an ICC version 2 profile, with its numbers by rule and no device behind it: an
+RGB device and Lab, both ways, by lut16s, one with a matrix that counts; a CMYK device and Lab, both ways, by lut16s; an RGB
+device to XYZ by a lut8; and a gray device to Lab by a lut8. The pictures are a chart of hues (PPM, 8 bits), ramps of red,
+green, blue and gray (PPM, 16 bits) and a wedge of grays (PGM, 8 bits).
 """
 import struct
 import sys
@@ -119,11 +123,73 @@ def gray():
     return profile(b"GRAY", b"Lab ", [(b"A2B0", element8(1, 3, 7, MIXED, [curve(256, 1, 255)], nodes, [curve(256, 0, 255)] * 3))])
 
 
+def picture(magic, largest, rows):
+    """A picture of samples from 0 to `largest`: one byte each, or two with the high one first where one is too few."""
+    samples = [sample for row in rows for pixel in row for sample in pixel]
+    head = b"%s\n%d %d\n%d\n" % (magic, len(rows[0]), len(rows), largest)
+    return head + struct.pack(">%d%s" % (len(samples), "B" if largest < 256 else "H"), *samples)
+
+
+def hue(sixth, step, of):
+    """A full colour on the way round, `step` of `of` steps into a sixth of it."""
+    up, down = 255 * step // of, 255 - 255 * step // of
+    return [(255, up, 0), (down, 255, 0), (0, 255, up), (0, down, 255), (up, 0, 255), (255, 0, down)][sixth]
+
+
+def hues():
+    """Hues from left to right; from black at the top by the full colours to white at the bottom."""
+    full = [hue(x // 4, x % 4, 4) for x in range(24)]
+    dark = [[tuple(c * y // 8 for c in pixel) for pixel in full] for y in range(8)]
+    light = [[tuple(255 - (255 - c) * (8 - y) // 8 for c in pixel) for pixel in full] for y in range(9)]
+    return picture(b"P6", 255, dark + light)
+
+
+def ramps():
+    """A row each of red, green, blue and gray, which rise to the full count."""
+    counts = [FULL * x // 32 for x in range(33)]
+    rows = [[tuple(c if k == j else 0 for k in range(3)) for c in counts] for j in range(3)]
+    return picture(b"P6", FULL, rows + [[(c, c, c) for c in counts]])
+
+
+def wedge():
+    """Sixteen grays, each four pixels wide and high."""
+    return picture(b"P5", 255, [[(17 * (x // 4),) for x in range(64)]] * 4)
+
+
+def samples():
+    """The files by name."""
+    return {
+        "rgb.icc": rgb(),
+        "cmyk.icc": cmyk(),
+        "small-rgb.icc": small_rgb(),
+        "gray.icc": gray(),
+        "hues.ppm": hues(),
+        "ramps.ppm": ramps(),
+        "wedge.pgm": wedge(),
+    }
+
+
+def differing(folder):
+    """The names of the files that are missing or hold something else."""
+    def held(path):
+        return path.read_bytes() if path.exists() else None
+
+    return [name for name, made in samples().items() if held(folder / name) != made]
+
+
 def main():
-    default = Path(__file__).resolve().parent.parent / "crates" / "kiosk" / "data"
-    folder = Path(sys.argv[1]) if len(sys.argv) > 1 else default
-    for name, made in (("rgb", rgb()), ("cmyk", cmyk()), ("small-rgb", small_rgb()), ("gray", gray())):
-        (folder / (name + ".icc")).write_bytes(made)
+    words = sys.argv[1:]
+    checking = words[:1] == ["--check"]
+    folders = words[1:] if checking else words
+    shipped = Path(__file__).resolve().parent.parent / "crates" / "kiosk" / "data"
+    folder = Path(folders[0]) if folders else shipped
+    if checking:
+        wrong = differing(folder)
+        if wrong:
+            sys.exit("not as they would be written: " + ", ".join(wrong))
+        return
+    for name, made in samples().items():
+        (folder / name).write_bytes(made)
 
 
 if __name__ == "__main__":
