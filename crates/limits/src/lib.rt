@@ -1,5 +1,5 @@
 // Tests at the limits that no request to `probe` can reach: values that are not made, sources that are too short, chains of
-// stages, and a link that is read back. They stand in a crate of their own, since a crate with
+// stages, a link that is read back, printed sentences and unequal values. They stand in a crate of their own, since a crate with
 // tests is proved twice.
 #![tactic(auto)]
 
@@ -11,3 +11,5 @@ mod curves;
 mod lattices;
 #[cfg(test)]
 mod links;
+#[cfg(test)]
+mod words;

@@ -1,7 +1,7 @@
 // Pixel kinds: how a pixel shows a colour, and how one is made from a colour.
 ghost use Rattle.std.specs.Prelude.{◌≡◌};
 ghost use Rattle.link.specs.Kinds.{Kind, LawfulKind};
-ghost use Rattle.link.specs.Pixels.{gray, rgb, cmyk};
+ghost use Rattle.link.specs.Pixels.{gray, rgb, cmyk, gray8, rgb8, cmyk8, rgb16};
 ghost use Rattle.link.specs.PixelLaws.{gray_lawful, rgb_lawful, cmyk_lawful};
 
 use meaning::Channels;
@@ -63,6 +63,14 @@ pub type Rgb8 = Rgb<u8>;
 pub type Cmyk8 = Cmyk<u8>;
 
 pub type Rgb16 = Rgb<u16>;
+
+// These four names stand for the kinds that the definitions give.
+pub fn named_kinds()
+    ensures gray8 { ⟦<Gray8 as Pixel>⟧.kind ≡ gray8 }
+    ensures rgb8 { ⟦<Rgb8 as Pixel>⟧.kind ≡ rgb8 }
+    ensures cmyk8 { ⟦<Cmyk8 as Pixel>⟧.kind ≡ cmyk8 }
+    ensures rgb16 { ⟦<Rgb16 as Pixel>⟧.kind ≡ rgb16 }
+{}
 
 impl<S: Sample> Pixel for Gray<S> {
     ghost kind = { gray S.width };

@@ -40,22 +40,28 @@ impl Refusal {
             Refusal::OutputLength => 37,
         }
     }
+
+    // The sentence that tells the reason.
+    pub fn sentence(self) -> &'static str
+        ensures { result.now ≡ sentence_of self }
+    {
+        match self {
+            Refusal::RowLengths => "the two rows are not equally long",
+            Refusal::PixelChannels => "the pixels' channels are not the stage's",
+            Refusal::GridPoints => "a link has 2 to 33 grid points",
+            Refusal::TableLength => "the node table is shorter than the link",
+            Refusal::NoLink => "there is no link",
+            Refusal::FullLink => "the link is full already",
+            Refusal::FillingLink => "the link is still filling",
+            Refusal::OutputLength => "the output is shorter than the written link",
+        }
+    }
 }
 
-// The sentence that tells the reason.
 impl fmt::Display for Refusal {
     ghost output = { λ refusal. Some (sentence_of refusal) };
 
     fn fmt<W: fmt::Write>(&self, f: &mut fmt::Formatter<W>) -> fmt::Result {
-        match self {
-            Refusal::RowLengths => f.write_str("the two rows are not equally long"),
-            Refusal::PixelChannels => f.write_str("the pixels' channels are not the stage's"),
-            Refusal::GridPoints => f.write_str("a link has 2 to 33 grid points"),
-            Refusal::TableLength => f.write_str("the node table is shorter than the link"),
-            Refusal::NoLink => f.write_str("there is no link"),
-            Refusal::FullLink => f.write_str("the link is full already"),
-            Refusal::FillingLink => f.write_str("the link is still filling"),
-            Refusal::OutputLength => f.write_str("the output is shorter than the written link"),
-        }
+        f.write_str(self.sentence())
     }
 }

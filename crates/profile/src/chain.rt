@@ -1,5 +1,6 @@
 // Chains of profiles: their elements, opened in turn and run one after the other.
-ghost use Rattle.std.specs.Prelude.{◌≡◌, ◌+◌, IsOk, IfOk, IfErr};
+ghost use Rattle.std.specs.Prelude.{◌≡◌, ℕ, ◌+◌, ◌≤◌, Err, IsOk, IfOk, IfErr, vec_capacity, vec_len};
+ghost use Rattle.profile.specs.declared.chain.ChainError.TheVariants.{Memory};
 ghost use Rattle.profile.specs.Chaining.{begun, lengthened, next_position, opened_chain, reported};
 ghost use Rattle.profile.specs.ChainViews.{chain_view, chain_meaning, chain_lawful, means, Answers, OpenUpTo};
 ghost use Rattle.profile.specs.Opening.{opened};
@@ -93,6 +94,7 @@ impl<'a> ElementChain<'a> {
         ensures answer { Answers (λ _. chain_view self.new) (λ k. (k ≡ next_position (chain_view self.old)) × IsOk (lengthened (chain_view self.old) (opened source.now.bytes.now source.now.tag))) result (lengthened (chain_view self.old) (opened source.now.bytes.now source.now.tag)) }
         ensures position { IfOk result (λ _. next_position (chain_view self.new) ≡ next_position (chain_view self.old) + 1) }
         ensures kept { IfErr result (λ _. chain_view self.new ≡ chain_view self.old) }
+        ensures full { (k : ℕ) → result ≡ Err (Memory k) → vec_capacity self.old.rest ≤ vec_len self.old.rest }
     {
         let position = self.next_position();
         let opened = open(source.bytes, source.tag).map_err(|fault| ChainError::Profile {

@@ -1,18 +1,56 @@
 // What is said of a fault: its layer by name, and a sentence.
-ghost use Rattle.std.specs.Prelude.{Some};
+ghost use Rattle.std.specs.Prelude.{◌≡◌, Some};
 ghost use Rattle.profile.specs.Sentences.{name_of, sentence_of};
 
 use crate::fault::{Fault, Layer};
 use std::fmt;
 
+impl Layer {
+    // Its name.
+    pub fn name(self) -> &'static str
+        ensures { result.now ≡ name_of self }
+    {
+        match self {
+            Layer::Header => "header",
+            Layer::Directory => "directory",
+            Layer::Element => "element",
+        }
+    }
+}
+
 impl fmt::Display for Layer {
     ghost output = { λ layer. Some (name_of layer) };
 
     fn fmt<W: fmt::Write>(&self, f: &mut fmt::Formatter<W>) -> fmt::Result {
+        f.write_str(self.name())
+    }
+}
+
+impl Fault {
+    // A sentence that tells it.
+    pub fn sentence(self) -> &'static str
+        ensures { result.now ≡ sentence_of self }
+    {
         match self {
-            Layer::Header => f.write_str("header"),
-            Layer::Directory => f.write_str("directory"),
-            Layer::Element => f.write_str("element"),
+            Fault::Length => {
+                "the file has fewer than 132 or more than 16777216 bytes, or not as many as it says"
+            }
+            Fault::Magic => "the file is no profile: acsp is missing",
+            Fault::ColourSpace => "the colour space is unknown",
+            Fault::OtherSpace => "the other space is unknown",
+            Fault::Records => "there are more than 64 records, or they go past the end of the file",
+            Fault::Absent => "the wanted element is not there",
+            Fault::Outside { .. } => {
+                "the element begins before the records end, or ends past the end of the file"
+            }
+            Fault::Short { .. } => "the element has fewer than 52 bytes",
+            Fault::UnknownType { .. } => "the element is neither a lut8 nor a lut16",
+            Fault::InChannels { .. } => "the element does not take the channels of its space",
+            Fault::OutChannels { .. } => "the element does not give the channels of its space",
+            Fault::GridPoints { .. } => "the lattice has fewer than 2 grid points",
+            Fault::InputLength { .. } => "the input tables do not have 2 to 4096 entries",
+            Fault::OutputLength { .. } => "the output tables do not have 2 to 4096 entries",
+            Fault::Tables { .. } => "the tables go past the end of the element",
         }
     }
 }
@@ -21,36 +59,6 @@ impl fmt::Display for Fault {
     ghost output = { λ fault. Some (sentence_of fault) };
 
     fn fmt<W: fmt::Write>(&self, f: &mut fmt::Formatter<W>) -> fmt::Result {
-        match self {
-            Fault::Length => f.write_str(
-                "the file has fewer than 132 or more than 16777216 bytes, or not as many as it says",
-            ),
-            Fault::Magic => f.write_str("the file is no profile: acsp is missing"),
-            Fault::ColourSpace => f.write_str("the colour space is unknown"),
-            Fault::OtherSpace => f.write_str("the other space is unknown"),
-            Fault::Records => f.write_str(
-                "there are more than 64 records, or they go past the end of the file",
-            ),
-            Fault::Absent => f.write_str("the wanted element is not there"),
-            Fault::Outside { .. } => f.write_str(
-                "the element begins before the records end, or ends past the end of the file",
-            ),
-            Fault::Short { .. } => f.write_str("the element has fewer than 52 bytes"),
-            Fault::UnknownType { .. } => f.write_str("the element is neither a lut8 nor a lut16"),
-            Fault::InChannels { .. } => f.write_str(
-                "the element does not take the channels of its space",
-            ),
-            Fault::OutChannels { .. } => f.write_str(
-                "the element does not give the channels of its space",
-            ),
-            Fault::GridPoints { .. } => f.write_str("the lattice has fewer than 2 grid points"),
-            Fault::InputLength { .. } => f.write_str(
-                "the input tables do not have 2 to 4096 entries",
-            ),
-            Fault::OutputLength { .. } => f.write_str(
-                "the output tables do not have 2 to 4096 entries",
-            ),
-            Fault::Tables { .. } => f.write_str("the tables go past the end of the element"),
-        }
+        f.write_str(self.sentence())
     }
 }
