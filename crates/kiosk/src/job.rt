@@ -457,7 +457,7 @@ mod tests {
     use std::test::Fail;
 
     // Texts of one wrong line each, with what is said of it.
-    const WRONG: [(&str, &str); 34] = [
+    const WRONG: [(&str, &str); 35] = [
         (
             "bent 1 2 0 1",
             "line 1: a line begins with matrix, curves, lattice, profile, row, colour, table, begin, fill, print, link, quote, write, drop or #",
@@ -472,6 +472,10 @@ mod tests {
         ),
         (
             "curves 2 2 0 1 0 1",
+            "line 1: curves have 1, 3 or 4 channels",
+        ),
+        (
+            "curves 03 2 0 1 0 1 0 1",
             "line 1: curves have 1, 3 or 4 channels",
         ),
         ("curves 1 1 0", "line 1: a table has 2 to 4096 entries"),
