@@ -4,6 +4,9 @@
     tools/make_samples.py [FOLDER]           into the folder, or where they are shipped
     tools/make_samples.py --check [FOLDER]   says whether the files there are what would be written
 
+They are shipped in samples/. The stored runs of the programs read copies in the folders of their crates, since the gate runs a
+program beside its own files and refuses links among them: so the copies are written and checked by this script too.
+
 Each profile has what the engine looks at of an ICC version 2 profile, with its numbers by rule and no device behind it: an
 RGB device and Lab, both ways, by lut16s, one with a matrix that counts; a CMYK device and Lab, both ways, by lut16s; an RGB
 device to XYZ by a lut8; and a gray device to Lab by a lut8. The pictures are a chart of hues (PPM, 8 bits), ramps of red,
@@ -14,6 +17,11 @@ import sys
 from pathlib import Path
 
 FULL = 65535
+TOP = Path(__file__).resolve().parent.parent
+SHIPPED = TOP / "samples"
+COPIES = {
+    TOP / "crates" / "jobs" / "data": ["rgb.icc", "cmyk.icc", "small-rgb.icc", "gray.icc"],
+}
 
 
 def element16(ins, outs, grid, matrix, inputs, nodes, outputs):
@@ -169,27 +177,26 @@ def samples():
     }
 
 
-def differing(folder):
-    """The names of the files that are missing or hold something else."""
-    def held(path):
-        return path.read_bytes() if path.exists() else None
-
-    return [name for name, made in samples().items() if held(folder / name) != made]
+def places(folder):
+    """The path and the bytes of each file that is written into a folder, or of all that are shipped."""
+    made = samples()
+    if folder:
+        return {Path(folder) / name: held for name, held in made.items()}
+    shipped = {SHIPPED / name: held for name, held in made.items()}
+    return shipped | {copied / name: made[name] for copied, names in COPIES.items() for name in names}
 
 
 def main():
     words = sys.argv[1:]
     checking = words[:1] == ["--check"]
-    folders = words[1:] if checking else words
-    shipped = Path(__file__).resolve().parent.parent / "crates" / "kiosk" / "data"
-    folder = Path(folders[0]) if folders else shipped
+    files = places(*(words[1:] if checking else words)[:1] or [None])
     if checking:
-        wrong = differing(folder)
+        wrong = [str(path) for path, made in files.items() if not path.exists() or path.read_bytes() != made]
         if wrong:
             sys.exit("not as they would be written: " + ", ".join(wrong))
         return
-    for name, made in samples().items():
-        (folder / name).write_bytes(made)
+    for path, made in files.items():
+        path.write_bytes(made)
 
 
 if __name__ == "__main__":

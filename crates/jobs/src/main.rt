@@ -1,5 +1,4 @@
-// The kiosk tool: runs the jobs that its arguments name, or colours through profiles, and prints what comes of them with the
-// bounds.
+// Runs the jobs that its arguments name, or tests itself, and prints what comes of them with the bounds.
 #![tactic(auto)]
 
 mod job;
@@ -14,7 +13,7 @@ mod work;
 mod written;
 
 use anyhow::{anyhow, bail};
-use job::{Job, tag_and_file};
+use job::Job;
 use std::process::ExitCode;
 use std::{env, fs};
 
@@ -52,45 +51,26 @@ fn run_each(rt: &HostRuntime, arguments: &[String]) -> anyhow::Result<()> {
     let mut outcome = Ok(());
     for argument in arguments {
         if let Err(error) = run_argument(rt, argument.as_str()) {
-            eprintln!(rt; "kiosk: {argument}: {error}")?;
+            eprintln!(rt; "jobs: {argument}: {error}")?;
             outcome = Err(anyhow!("not everything was run"));
         }
     }
     outcome
 }
 
-// Runs colours through profiles, which the arguments name: TAG:FILE for each profile, and counts with commas between.
-fn run_directly(rt: &HostRuntime, arguments: &[String]) -> anyhow::Result<()> {
-    let mut job = Job::new(rt.alloc());
-    for argument in arguments {
-        if let Err(reason) = job.take_argument(rt.alloc(), argument.as_str()) {
-            bail!(
-                "{argument}: {reason}; profiles are given as TAG:FILE, and colours as counts with commas between"
-            );
-        }
-    }
-    run::run(rt, &job, "")
-}
-
 fn run_arguments(rt: &HostRuntime) -> anyhow::Result<()> {
     let arguments: Vec<String> = env::args(rt)?.skip(1).collect(rt.alloc())?;
-    match arguments.first() {
-        None => bail!(
-            "name one or more job files, or selftest, or profiles as A2B0:FILE or B2A0:FILE and colours"
-        ),
-        Some(first) if tag_and_file(first.as_str()).is_some() => run_directly(
-            rt,
-            arguments.as_slice(),
-        ),
-        Some(_) => run_each(rt, arguments.as_slice()),
+    if arguments.is_empty() {
+        bail!("name one or more job files, or selftest");
     }
+    run_each(rt, arguments.as_slice())
 }
 
 fn main(rt: HostRuntime) -> ExitCode {
     match run_arguments(&rt) {
         Ok(()) => ExitCode::SUCCESS,
         Err(error) => {
-            let _ = eprintln!(rt; "kiosk: {error}");
+            let _ = eprintln!(rt; "jobs: {error}");
             ExitCode::FAILURE
         }
     }

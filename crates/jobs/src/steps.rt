@@ -41,7 +41,7 @@ impl<'a> Step<'a> {
 
 // A match in each method, since no function may hand out the `&dyn Stage` that one match would make.
 impl Stage for Step<'_> {
-    ghost use Rattle.kiosk.specs.declared.steps.Step.TheVariants.{Matrix, Curves, Lattice};
+    ghost use Rattle.jobs.specs.declared.steps.Step.TheVariants.{Matrix, Curves, Lattice};
 
     ghost meaning = { elim [
       | Matrix m ↦ ⟦<Matrix as Stage>⟧.meaning m

@@ -144,7 +144,7 @@ pub(crate) struct Job {
     pub tasks: Vec<Task>,
 }
 
-// What is wrong with a line, with an argument, or with the samples of a row.
+// What is wrong with a line, or with the samples of a row.
 #[derive(Debug, Drop, Error)]
 pub(crate) enum Reason {
     #[error("a line begins with matrix, curves, lattice, profile, row, colour, table, begin, fill, print, link, quote, write, drop or #")]
@@ -362,16 +362,9 @@ fn tag_of(word: &str) -> Option<Tag> {
     }
 }
 
-// The element and the file that TAG:FILE names, or nothing where it has not that form.
-pub(crate) fn tag_and_file(argument: &str) -> Option<(Tag, &str)> {
-    let (tag, file) = argument.split_once(':')?;
-    let tag = tag_of(tag)?;
-    (!file.is_empty()).then_some((tag, file))
-}
-
 impl Job {
     // A job that has nothing yet.
-    pub(crate) fn new(heap: Global) -> Job {
+    fn new(heap: Global) -> Job {
         Job {
             stages: Vec::new(heap),
             profiles: Vec::new(heap),
@@ -387,19 +380,6 @@ impl Job {
                 .map_err(|reason| BadLine { line, reason })?;
         }
         Ok(job)
-    }
-
-    // One argument more: TAG:FILE for a profile, or the counts of a colour with commas between.
-    pub(crate) fn take_argument(&mut self, heap: Global, argument: &str) -> Result<(), Reason> {
-        if let Some((tag, file)) = tag_and_file(argument) {
-            let path = file.to_string(heap)?;
-            return self.take_profile(ProfileTask { tag, path });
-        }
-        let counts = argument
-            .split(',')
-            .map(|word| word.parse::<u16>().map_err(|_| Reason::NotACount))
-            .try_collect(heap)?;
-        self.take_task(Task::Colour(colour_of(counts)?))
     }
 
     // One line more of a job.
@@ -597,21 +577,6 @@ mod tests {
             let bad = Job::read(rt.alloc(), text).err().ok_or(text)?;
             assert_eq!(rt; bad.to_string(rt.alloc())?.as_str(), sentence);
         }
-        Ok(())
-    }
-
-    #[test]
-    fn arguments_are_profiles_and_colours(rt: HostRuntime) -> Result<(), Fail> {
-        let heap = rt.alloc();
-        let mut job = Job::new(heap);
-        job.take_argument(heap, "B2A0:a/b.icc")
-            .map_err(|_| "profile")?;
-        job.take_argument(heap, "1,2,65535").map_err(|_| "colour")?;
-        assert_eq!(rt; job.profiles.len(), 1);
-        assert_eq!(rt; job.tasks.len(), 1);
-        assert!(rt; job.take_argument(heap, "1,2").is_err());
-        assert!(rt; job.take_argument(heap, "1,2,65536").is_err());
-        assert!(rt; job.take_argument(heap, "C2B0:c.icc").is_err());
         Ok(())
     }
 }
