@@ -7,7 +7,7 @@ ghost use Rattle.profile.specs.Views.{narrow_bytes, wide_bytes, part_view, place
 
 use meaning::Channels;
 use stage::{
-    Colour, Curves, Entries, Joined, Lattice, Matrix, NarrowBytes, Stage, Table, WideBytes,
+    Colour, Curves, Entries, Grid, Joined, Lattice, Matrix, NarrowBytes, Stage, Table, WideBytes,
 };
 
 // The two types of element that can be opened.
@@ -200,6 +200,16 @@ impl<'a> Element<'a> {
         match self {
             Element::Lut8(_) => Kind::Lut8,
             Element::Lut16(_) => Kind::Lut16,
+        }
+    }
+
+    // The grid points of its lattice.
+    pub fn grid(&self) -> Grid
+        ensures { result.0 ≡ (element_view self.now).nodes.grid }
+    {
+        match self {
+            Element::Lut8(narrow) => narrow.first.second.grid(),
+            Element::Lut16(wide) => wide.first.second.grid(),
         }
     }
 

@@ -10,7 +10,7 @@ use crate::tag::Tag;
 
 // The two spaces that a profile is made for.
 #[derive(Clone, Copy, PartialEq, Eq, Debug)]
-pub(crate) struct Header {
+pub struct Header {
     // That of the device.
     pub colour: Space,
     // That which colours are told in between devices.
@@ -25,8 +25,9 @@ fn length_fits(bytes: &[u8]) -> bool
 }
 
 impl Header {
-    // The spaces, where the header's checks pass.
-    pub(crate) fn read(bytes: &[u8]) -> Result<Header, Fault>
+    // The two spaces that the header of a file names, or the fault of the first of its checks that fails. Neither the directory
+    // nor an element is looked at.
+    pub fn read(bytes: &[u8]) -> Result<Header, Fault>
         ensures value { result ≡ ruled (header_checks bytes.now) (header bytes.now) }
         ensures long { IfOk result (λ _. 132 ≤ length bytes.now) }
     {

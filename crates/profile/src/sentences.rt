@@ -1,8 +1,10 @@
-// What is said of a fault: its layer by name, and a sentence.
+// What is said of profiles: layers, spaces and the types of elements by name, and a fault in a sentence.
 ghost use Rattle.std.specs.Prelude.{◌≡◌, Some};
-ghost use Rattle.profile.specs.Sentences.{name_of, sentence_of};
+ghost use Rattle.profile.specs.Sentences.{kind_name, name_of, sentence_of, space_name};
 
+use crate::element::Kind;
 use crate::fault::{Fault, Layer};
+use crate::space::Space;
 use std::fmt;
 
 impl Layer {
@@ -60,5 +62,48 @@ impl fmt::Display for Fault {
 
     fn fmt<W: fmt::Write>(&self, f: &mut fmt::Formatter<W>) -> fmt::Result {
         f.write_str(self.sentence())
+    }
+}
+
+impl Space {
+    // Its name.
+    pub fn name(self) -> &'static str
+        ensures { result.now ≡ space_name self }
+    {
+        match self {
+            Space::Gray => "GRAY",
+            Space::Rgb => "RGB",
+            Space::Cmyk => "CMYK",
+            Space::Lab => "Lab",
+            Space::Xyz => "XYZ",
+        }
+    }
+}
+
+impl fmt::Display for Space {
+    ghost output = { λ space. Some (space_name space) };
+
+    fn fmt<W: fmt::Write>(&self, f: &mut fmt::Formatter<W>) -> fmt::Result {
+        f.write_str(self.name())
+    }
+}
+
+impl Kind {
+    // Its name.
+    pub fn name(self) -> &'static str
+        ensures { result.now ≡ kind_name self }
+    {
+        match self {
+            Kind::Lut8 => "lut8",
+            Kind::Lut16 => "lut16",
+        }
+    }
+}
+
+impl fmt::Display for Kind {
+    ghost output = { λ kind. Some (kind_name kind) };
+
+    fn fmt<W: fmt::Write>(&self, f: &mut fmt::Formatter<W>) -> fmt::Result {
+        f.write_str(self.name())
     }
 }

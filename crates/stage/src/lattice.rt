@@ -98,6 +98,13 @@ impl<E: Entries> Lattice<E> {
         }
     }
 
+    // Its grid points.
+    pub fn grid(&self) -> Grid
+        ensures { result.0 ≡ self.now.grid }
+    {
+        Grid(self.grid)
+    }
+
     // Where the entries come from.
     pub fn table(&self) -> &E
         ensures { result.now ≡ self.now.table }
