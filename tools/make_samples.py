@@ -21,6 +21,7 @@ TOP = Path(__file__).resolve().parent.parent
 SHIPPED = TOP / "samples"
 COPIES = {
     TOP / "crates" / "jobs" / "data": ["rgb.icc", "cmyk.icc", "small-rgb.icc", "gray.icc"],
+    TOP / "crates" / "kiosk" / "data": ["rgb.icc", "cmyk.icc", "hues.ppm"],
 }
 
 

@@ -1,0 +1,86 @@
+// The profiles that a call names: their files, and their chain, or what is wrong with one of them.
+use crate::failure::{Failure, Told};
+use profile::{ChainError, ElementChain, Source, Tag, open_chain};
+use std::fs;
+
+// An element of a profile, as the call names it.
+#[derive(Clone, Copy)]
+pub(crate) struct Named<'a> {
+    pub text: &'a str,
+    pub tag: Tag,
+    pub path: &'a str,
+}
+
+impl<'a> Named<'a> {
+    // What TAG:FILE names, or nothing where the text has not that form.
+    pub(crate) fn of(text: &'a str) -> Option<Named<'a>> {
+        let (tag, path) = text.split_once(':')?;
+        let tag = match tag {
+            "A2B0" => Tag::A2B0,
+            "B2A0" => Tag::B2A0,
+            _ => return None,
+        };
+        (!path.is_empty()).then_some(Named { text, tag, path })
+    }
+}
+
+// The bytes of a file.
+pub(crate) fn file_of<'a>(rt: &HostRuntime, path: &'a str) -> Result<Vec<u8>, Failure<'a>> {
+    fs::read(rt, path).map_err(|error| Failure::Unread { path, error })
+}
+
+// The bytes of each profile.
+pub(crate) fn files_of<'a>(
+    rt: &HostRuntime,
+    profiles: &[Named<'a>],
+) -> Result<Vec<Vec<u8>>, Failure<'a>> {
+    let mut files = Vec::new(rt.alloc());
+    for profile in profiles {
+        files.push(file_of(rt, profile.path)?)?;
+    }
+    Ok(files)
+}
+
+// A profile as the call names it.
+fn text_at<'a>(profiles: &[Named<'a>], position: usize) -> &'a str {
+    match profiles.get(position) {
+        Some(named) => named.text,
+        None => "a profile",
+    }
+}
+
+// What is wrong with a chain, in the words of the call.
+fn failure_of<'a>(profiles: &[Named<'a>], error: ChainError) -> Failure<'a> {
+    match error {
+        ChainError::Profile { position, fault } => Failure::Profile {
+            profile: text_at(profiles, position),
+            fault: Told(fault),
+        },
+        ChainError::Spaces { position } => Failure::Spaces {
+            profile: text_at(profiles, position),
+            before: text_at(profiles, position.saturating_sub(1)),
+        },
+        ChainError::Memory { position } => Failure::ProfileMemory {
+            profile: text_at(profiles, position),
+        },
+    }
+}
+
+// The chain of the profiles.
+pub(crate) fn opened<'f, 'a>(
+    rt: &HostRuntime,
+    profiles: &[Named<'a>],
+    files: &'f [Vec<u8>],
+) -> Result<ElementChain<'f>, Failure<'a>> {
+    let mut sources = Vec::new(rt.alloc());
+    for (profile, file) in profiles.iter().zip(files) {
+        sources.push(Source {
+            bytes: file.as_slice(),
+            tag: profile.tag,
+        })?;
+    }
+    let Some((first, rest)) = sources.as_slice().split_first() else {
+        return Err(Failure::NoProfile);
+    };
+    open_chain(rt.alloc(), first, rest).map_err(|error| failure_of(profiles, error))
+}
