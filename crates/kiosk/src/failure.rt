@@ -3,7 +3,7 @@
 use crate::figures::Many;
 use crate::picture::BadPicture;
 use link::Refusal;
-use profile::Fault;
+use profile::{Fault, Space};
 use std::alloc::AllocError;
 use std::{fmt, io};
 use thiserror::Error;
@@ -59,17 +59,19 @@ pub(crate) enum Failure<'a> {
         profile: &'a str,
         fault: Told,
     },
-    #[error("{profile} does not take the space that {before} gives, number 13")]
+    #[error("{before} gives {gives}, and {behind} takes {takes}: they do not meet, number 13")]
     Spaces {
-        profile: &'a str,
         before: &'a str,
+        gives: Space,
+        behind: &'a str,
+        takes: Space,
     },
     #[error("{profile}: there is not enough memory")]
     ProfileMemory {
         profile: &'a str,
     },
-    #[error("there is no profile")]
-    NoProfile,
+    #[error("the profiles make no chain")]
+    NoChain,
     #[error("{path}: {bad}")]
     Picture {
         path: &'a str,

@@ -1,6 +1,6 @@
 // The profiles that a call names: their files, and their chain, or what is wrong with one of them.
 use crate::failure::{Failure, Told};
-use profile::{ChainError, ElementChain, Source, Tag, open_chain};
+use profile::{ChainError, ElementChain, Source, Tag, open, open_chain};
 use std::fs;
 
 // An element of a profile, as the call names it.
@@ -49,17 +49,33 @@ fn text_at<'a>(profiles: &[Named<'a>], position: usize) -> &'a str {
     }
 }
 
+// What is wrong with the profile at a position that does not take what the one before it gives.
+fn apart<'a>(profiles: &[Named<'a>], files: &[Vec<u8>], position: usize) -> Option<Failure<'a>> {
+    let earlier = position.checked_sub(1)?;
+    let before = profiles.get(earlier)?;
+    let behind = profiles.get(position)?;
+    let gives = open(files.get(earlier)?.as_slice(), before.tag).ok()?.gives;
+    let takes = open(files.get(position)?.as_slice(), behind.tag)
+        .ok()?
+        .takes;
+    Some(Failure::Spaces {
+        before: before.text,
+        gives,
+        behind: behind.text,
+        takes,
+    })
+}
+
 // What is wrong with a chain, in the words of the call.
-fn failure_of<'a>(profiles: &[Named<'a>], error: ChainError) -> Failure<'a> {
+fn failure_of<'a>(profiles: &[Named<'a>], files: &[Vec<u8>], error: ChainError) -> Failure<'a> {
     match error {
         ChainError::Profile { position, fault } => Failure::Profile {
             profile: text_at(profiles, position),
             fault: Told(fault),
         },
-        ChainError::Spaces { position } => Failure::Spaces {
-            profile: text_at(profiles, position),
-            before: text_at(profiles, position.saturating_sub(1)),
-        },
+        ChainError::Spaces { position } => {
+            apart(profiles, files, position).unwrap_or(Failure::NoChain)
+        }
         ChainError::Memory { position } => Failure::ProfileMemory {
             profile: text_at(profiles, position),
         },
@@ -80,7 +96,7 @@ pub(crate) fn opened<'f, 'a>(
         })?;
     }
     let Some((first, rest)) = sources.as_slice().split_first() else {
-        return Err(Failure::NoProfile);
+        return Err(Failure::NoChain);
     };
-    open_chain(rt.alloc(), first, rest).map_err(|error| failure_of(profiles, error))
+    open_chain(rt.alloc(), first, rest).map_err(|error| failure_of(profiles, files, error))
 }
