@@ -77,7 +77,7 @@ impl<'f, 'a> Conversion<'_, '_, 'f, 'a> {
             self.tally.count(row, way, bound);
             put_row(leaving.as_slice(), leaving_size, bytes.as_mut_slice());
             self.output.write(bytes.as_slice())?;
-            progress.tell(self.rt, row.saturating_add(1), self.press.filled())?;
+            progress.tell(self.rt, row.saturating_add(1), self.press.filled());
         }
         Ok(())
     }

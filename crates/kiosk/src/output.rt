@@ -21,6 +21,13 @@ fn is_special(rt: &HostRuntime, path: &str) -> bool {
     }
 }
 
+// Removes what was written beside the asked name. That a file cannot be removed is not told: what went wrong before is.
+fn take_away(rt: &HostRuntime, part: Option<&String>) {
+    if let Some(part) = part {
+        let _ = fs::remove_file(rt, part.as_str());
+    }
+}
+
 impl<'a> Output<'a> {
     pub(crate) fn create(rt: &HostRuntime, path: &'a str) -> Result<Output<'a>, Failure<'a>> {
         let part = if is_special(rt, path) {
@@ -32,10 +39,14 @@ impl<'a> Output<'a> {
             Some(part) => File::create(rt, part.as_str()),
             None => File::create(rt, path),
         };
-        let writer = file
-            .and_then(|file| BufWriter::new(rt.alloc(), file))
-            .map_err(|error| Failure::Unwritten { path, error })?;
-        Ok(Output { path, part, writer })
+        let file = file.map_err(|error| Failure::Unwritten { path, error })?;
+        match BufWriter::new(rt.alloc(), file) {
+            Ok(writer) => Ok(Output { path, part, writer }),
+            Err(error) => {
+                take_away(rt, part.as_ref());
+                Err(Failure::Unwritten { path, error })
+            }
+        }
     }
 
     pub(crate) fn write(&mut self, bytes: &[u8]) -> Result<(), Failure<'a>> {
@@ -75,8 +86,8 @@ impl<'a> Output<'a> {
         outcome: Result<T, Failure<'a>>,
     ) -> Result<T, Failure<'a>> {
         let outcome = self.settle(rt, outcome);
-        if let (Err(_), Some(part)) = (&outcome, &self.part) {
-            let _ = fs::remove_file(rt, part.as_str());
+        if outcome.is_err() {
+            take_away(rt, self.part.as_ref());
         }
         outcome
     }

@@ -1,5 +1,4 @@
 // How far a long conversion is, told on standard error: at most one line a second, and none in the first.
-use std::io;
 use std::time::Instant;
 
 // A second, in milliseconds.
@@ -37,19 +36,15 @@ impl Progress {
     }
 
     // Tells how many rows are done, if it is time, and how many in a hundred of the link's nodes are filled, if there is a link.
-    pub(crate) fn tell(
-        &mut self,
-        rt: &HostRuntime,
-        done: usize,
-        filled: Option<usize>,
-    ) -> io::Result<()> {
+    // A conversion does not end where that cannot be told.
+    pub(crate) fn tell(&mut self, rt: &HostRuntime, done: usize, filled: Option<usize>) {
         if !self.is_due(rt) {
-            return Ok(());
+            return;
         }
         let rows = self.rows;
-        match filled {
+        let _ = match filled {
             None => eprintln!(rt; "kiosk: row {done} of {rows}"),
             Some(filled) => eprintln!(rt; "kiosk: row {done} of {rows}, link {filled} % filled"),
-        }
+        };
     }
 }
