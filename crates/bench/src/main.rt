@@ -1,14 +1,19 @@
 // Works out the steepness of large lattices, for which their tables are read whole, opens large profiles, and sends rows of
 // pixels through lattices. How long that took goes to standard error, since it differs from run to run.
+// With an argument it does its part of bench/compare.sh instead: `compare ROUNDS` prints times, and `leaving` prints rows.
 #![tactic(auto)]
 
+mod compare;
 mod profiles;
 mod rows;
+mod spent;
 
-use anyhow::Context;
+use anyhow::{Context, bail};
+use compare::Task;
 use meaning::Channels;
 use stage::{Entries, Lattice, Sample, Stage, Table, WideBytes, lattice_entries};
 use std::alloc::{AllocError, Global};
+use std::env;
 use std::process::ExitCode;
 use std::time::Instant;
 
@@ -46,7 +51,7 @@ impl Shape {
 }
 
 // A count that goes with a number, without an order that can be seen: twice multiplied, with the upper half mixed in.
-fn scrambled(number: u32) -> u16 {
+pub(crate) fn scrambled(number: u32) -> u16 {
     let once = number.wrapping_mul(2_654_435_761);
     ((once ^ (once >> 15)).wrapping_mul(2_246_822_519) >> 16) as u16
 }
@@ -91,11 +96,29 @@ fn scan_all(rt: &HostRuntime) -> anyhow::Result<()> {
     scan(rt, FINE, "8 bits", Table(bytes.as_slice()))
 }
 
+// What is the same in every run.
+fn run_all(rt: &HostRuntime) -> anyhow::Result<()> {
+    scan_all(rt)?;
+    profiles::run(rt)?;
+    rows::run(rt)
+}
+
+fn run_arguments(rt: &HostRuntime) -> anyhow::Result<()> {
+    let arguments: Vec<String> = env::args(rt)?.skip(1).collect(rt.alloc())?;
+    let mut words = arguments.iter().map(|word| word.as_str());
+    match (words.next(), words.next()) {
+        (None, _) => run_all(rt),
+        (Some("compare"), Some(rounds)) => {
+            let rounds = rounds.parse().ok().context("ROUNDS is a number")?;
+            compare::run(rt, Task::Time { rounds })
+        }
+        (Some("leaving"), None) => compare::run(rt, Task::Leave),
+        _ => bail!("name nothing, or compare and how many rounds, or leaving"),
+    }
+}
+
 fn main(rt: HostRuntime) -> ExitCode {
-    match scan_all(&rt)
-        .and_then(|()| profiles::run(&rt))
-        .and_then(|()| rows::run(&rt))
-    {
+    match run_arguments(&rt) {
         Ok(()) => ExitCode::SUCCESS,
         Err(error) => {
             let _ = eprintln!(rt; "bench: {error}");

@@ -1,5 +1,6 @@
 // A profile of some 300 kB: how long it takes to open it and to work out its bound; and files at the longest length.
-use crate::scattered;
+use crate::spent::Spent;
+use crate::{Shape, scattered};
 use anyhow::{Context, bail};
 use meaning::Channels;
 use profile::{Opened, Tag, open};
@@ -7,8 +8,12 @@ use stage::{Rated, Stage, lattice_entries};
 use std::alloc::{AllocError, Global};
 use std::time::Instant;
 
-// The grid points of the profile's lattice, and the entries of each of its curves.
-const GRID: u8 = 33;
+// The profile's lattice, and the entries of each of its curves.
+const LATTICE: Shape = Shape {
+    ins: Channels::Three,
+    outs: Channels::Four,
+    grid: 33,
+};
 
 const CURVE: u16 = 256;
 
@@ -23,12 +28,23 @@ fn push_word(bytes: &mut Vec<u8>, word: u32) -> Result<(), AllocError> {
     Ok(())
 }
 
-// The first bytes of a profile from RGB to CMYK with one element, and the element's own first bytes.
-fn head(heap: Global, length: u32, element: u32) -> Result<Vec<u8>, AllocError> {
+// The space that has so many channels, in a profile's header.
+fn space(channels: Channels) -> &'static [u8; 4] {
+    match channels {
+        Channels::One => b"GRAY",
+        Channels::Three => b"RGB ",
+        Channels::Four => b"CMYK",
+    }
+}
+
+// The first bytes of a profile with one element, a lut16, and the element's own first bytes.
+fn head(heap: Global, shape: Shape, length: u32, element: u32) -> Result<Vec<u8>, AllocError> {
+    let Shape { ins, outs, grid } = shape;
     let mut bytes = Vec::new(heap);
     push_word(&mut bytes, length)?;
     bytes.resize(16, 0)?;
-    bytes.extend_from_slice(b"RGB CMYK")?;
+    bytes.extend_from_slice(space(ins))?;
+    bytes.extend_from_slice(space(outs))?;
     bytes.resize(36, 0)?;
     bytes.extend_from_slice(b"acsp")?;
     bytes.resize(128, 0)?;
@@ -37,7 +53,7 @@ fn head(heap: Global, length: u32, element: u32) -> Result<Vec<u8>, AllocError> 
     push_word(&mut bytes, 144)?;
     push_word(&mut bytes, element)?;
     bytes.extend_from_slice(b"mft2")?;
-    bytes.extend_from_slice(&[0, 0, 0, 0, 3, 4, GRID, 0])?;
+    bytes.extend_from_slice(&[0, 0, 0, 0, ins.number() as u8, outs.number() as u8, grid, 0])?;
     for coefficient in [65_536u32, 0, 0, 0, 65_536, 0, 0, 0, 65_536] {
         push_word(&mut bytes, coefficient)?;
     }
@@ -46,50 +62,102 @@ fn head(heap: Global, length: u32, element: u32) -> Result<Vec<u8>, AllocError> 
     Ok(bytes)
 }
 
-// Curves that change nothing.
-fn push_straight_curves(bytes: &mut Vec<u8>, channels: Channels) -> Result<(), AllocError> {
+// The curves of a profile: they change nothing, or raise or lower the middle.
+#[derive(Clone, Copy)]
+pub(crate) enum Tone {
+    Straight,
+    Lower,
+    Higher,
+}
+
+impl Tone {
+    fn entry(self, index: u8) -> u16 {
+        match self {
+            Tone::Straight => 257 * u16::from(index),
+            Tone::Lower => lowered(index),
+            Tone::Higher => u16::MAX - lowered(255 - index),
+        }
+    }
+}
+
+// Half of the count, and half of its square.
+fn lowered(index: u8) -> u16 {
+    let index = u32::from(index);
+    (index * (index + 255) * 257 / 510) as u16
+}
+
+fn push_curves(bytes: &mut Vec<u8>, channels: Channels, tone: Tone) -> Result<(), AllocError> {
     for _ in 0..channels.number() {
-        for byte in 0..=255 {
-            bytes.extend_from_slice(&[byte, byte])?;
+        for index in 0..=255 {
+            bytes.extend_from_slice(&tone.entry(index).to_be_bytes())?;
         }
     }
     Ok(())
 }
 
-// The profile, with nodes in no order. It is as long as it needs to be, or longer.
-fn profile_of(heap: Global, longer: usize) -> anyhow::Result<Vec<u8>> {
-    let nodes = lattice_entries(Channels::Three, Channels::Four, GRID);
-    let entries = nodes + 7 * usize::from(CURVE);
-    let element = 52 + 2 * entries;
+// The tones of a profile's curves.
+#[derive(Clone, Copy)]
+pub(crate) struct Tones {
+    pub input: Tone,
+    pub output: Tone,
+}
+
+// A profile whose lattice has those nodes, two bytes an entry. It is as long as it needs to be, or longer.
+pub(crate) fn profile_of(
+    heap: Global,
+    shape: Shape,
+    tones: Tones,
+    nodes: &[u8],
+    longer: usize,
+) -> anyhow::Result<Vec<u8>> {
+    let Shape { ins, outs, grid } = shape;
+    let curves = (ins.number() + outs.number()) * usize::from(CURVE);
+    let element = 52 + 2 * (lattice_entries(ins, outs, grid) + curves);
     let length = longer.max(144 + element);
-    let mut bytes = head(heap, u32::try_from(length)?, u32::try_from(element)?)?;
-    push_straight_curves(&mut bytes, Channels::Three)?;
-    bytes.extend_from_slice(scattered::<u8>(heap, 2 * nodes)?.as_slice())?;
-    push_straight_curves(&mut bytes, Channels::Four)?;
+    let mut bytes = head(heap, shape, u32::try_from(length)?, u32::try_from(element)?)?;
+    push_curves(&mut bytes, ins, tones.input)?;
+    bytes.extend_from_slice(nodes)?;
+    push_curves(&mut bytes, outs, tones.output)?;
     bytes.resize(length, 0)?;
     Ok(bytes)
 }
 
-// Opens a profile many times, and tells to standard error how long it took once.
-fn opened<'a>(rt: &HostRuntime, bytes: &'a [u8]) -> anyhow::Result<Opened<'a>> {
+// A profile with nodes in no order.
+fn scattered_profile(heap: Global, longer: usize) -> anyhow::Result<Vec<u8>> {
+    let nodes = scattered::<u8>(heap, LATTICE.bytes())?;
+    let tones = Tones {
+        input: Tone::Straight,
+        output: Tone::Straight,
+    };
+    profile_of(heap, LATTICE, tones, nodes.as_slice(), longer)
+}
+
+// Opens a profile many times, and returns how long that took.
+pub(crate) fn open_often(rt: &HostRuntime, bytes: &[u8]) -> anyhow::Result<Spent> {
     let start = Instant::now(rt)?;
-    for _ in 1..TIMES {
+    for _ in 0..TIMES {
         if open(bytes, Tag::A2B0).is_err() {
             bail!("the profile was refused");
         }
     }
-    let opened = open(bytes, Tag::A2B0)
+    Ok(Spent {
+        nanoseconds: start.elapsed(rt)?.as_nanos(),
+        things: u128::from(TIMES),
+    })
+}
+
+pub(crate) fn opened(bytes: &[u8]) -> anyhow::Result<Opened<'_>> {
+    open(bytes, Tag::A2B0)
         .ok()
-        .context("the profile was refused")?;
-    let spent = start.elapsed(rt)?.as_nanos() / u128::from(TIMES);
-    eprintln!(rt; "  opened in {spent} nanoseconds")?;
-    Ok(opened)
+        .context("the profile was refused")
 }
 
 // Prints the bound of a profile, and to standard error how long it took to work it out.
 fn rate(rt: &HostRuntime) -> anyhow::Result<()> {
-    let bytes = profile_of(rt.alloc(), 0)?;
-    let element = opened(rt, bytes.as_slice())?.element;
+    let bytes = scattered_profile(rt.alloc(), 0)?;
+    let spent = open_often(rt, bytes.as_slice())?;
+    eprintln!(rt; "  opened in {spent} nanoseconds")?;
+    let element = opened(bytes.as_slice())?.element;
     let start = Instant::now(rt)?;
     let rated = Rated::new(element);
     let spent = start.elapsed(rt)?.as_micros();
@@ -105,7 +173,7 @@ fn rate(rt: &HostRuntime) -> anyhow::Result<()> {
 
 // Prints whether a file of that length opens.
 fn try_length(rt: &HostRuntime, length: usize) -> anyhow::Result<()> {
-    let bytes = profile_of(rt.alloc(), length)?;
+    let bytes = scattered_profile(rt.alloc(), length)?;
     match open(bytes.as_slice(), Tag::A2B0) {
         Ok(_) => println!(rt; "a file of {length} bytes opens")?,
         Err(fault) => {

@@ -1,8 +1,9 @@
 // Links: how long it takes to fill one, and rows of pixels directly and through it, a node and a pixel.
+use crate::spent::Spent;
 use crate::{Shape, scattered};
-use anyhow::{anyhow, bail};
+use anyhow::{Context, anyhow};
 use link::{Cmyk8, Converter, Pixel, Refusal, Rgb8, Rgb16};
-use stage::{Lattice, NodeTable, Table};
+use stage::{Lattice, NodeTable, Stage, Table};
 use std::alloc::{AllocError, Global};
 use std::time::Instant;
 
@@ -12,7 +13,7 @@ const GRID: u8 = 33;
 const STAGE_GRID: u8 = 9;
 
 // The pixels of a row.
-const PIXELS: usize = 4_096;
+pub(crate) const PIXELS: usize = 4_096;
 
 // How often a row is sent in a round, and the rounds, of which the shortest tells how long a pixel takes: the others were
 // held up.
@@ -40,17 +41,15 @@ fn checksum<P: Pixel>(row: &[P]) -> u32 {
 
 // Which way a row goes.
 #[derive(Clone, Copy)]
-enum Way<'a> {
+pub(crate) enum Way<'a> {
     Direct,
     Link(&'a [u16]),
 }
 
-type Bench<'a> = Converter<Lattice<NodeTable<'a>>>;
-
 impl Way<'_> {
-    fn send<P: Pixel, Q: Pixel>(
+    pub(crate) fn send<S: Stage, P: Pixel, Q: Pixel>(
         self,
-        converter: &Bench<'_>,
+        converter: &Converter<S>,
         entering: &[P],
         leaving: &mut [Q],
     ) -> Result<u32, Refusal> {
@@ -68,60 +67,82 @@ impl Way<'_> {
     }
 }
 
-fn refused(refusal: Refusal) -> anyhow::Error {
+pub(crate) fn refused(refusal: Refusal) -> anyhow::Error {
     anyhow!("a call was refused: {refusal}")
 }
 
-// Prints how long each of so many things took.
-fn print_each(rt: &HostRuntime, what: &str, spent: u128, many: u128) -> anyhow::Result<()> {
-    let tenths = spent.saturating_mul(10) / many.max(1);
-    let whole = tenths / 10;
-    let tenth = tenths % 10;
-    eprintln!(rt; "  {what}: {whole}.{tenth} nanoseconds")?;
-    Ok(())
+// Sends a row a hundred times, and returns how long a pixel took.
+pub(crate) fn round<S: Stage, P: Pixel, Q: Pixel>(
+    rt: &HostRuntime,
+    converter: &Converter<S>,
+    way: Way<'_>,
+    entering: &[P],
+    leaving: &mut [Q],
+) -> anyhow::Result<Spent> {
+    let start = Instant::now(rt)?;
+    for _ in 0..TIMES {
+        way.send(converter, entering, leaving).map_err(refused)?;
+    }
+    Ok(Spent {
+        nanoseconds: start.elapsed(rt)?.as_nanos(),
+        things: u128::from(TIMES) * PIXELS as u128,
+    })
 }
 
 // Sends a row in rounds. Prints the bound and the checksum of what leaves, and to standard error how long a pixel took in the
 // shortest round.
-fn send<P: Pixel, Q: Pixel>(
+fn send<S: Stage, P: Pixel, Q: Pixel>(
     rt: &HostRuntime,
-    converter: &Bench<'_>,
+    converter: &Converter<S>,
     way: Way<'_>,
     entering: &[P],
     leaving: &mut [Q],
 ) -> anyhow::Result<()> {
-    let mut bound = 0;
-    let mut shortest = u128::MAX;
-    for _ in 0..ROUNDS {
-        let start = Instant::now(rt)?;
-        for _ in 0..TIMES {
-            bound = way.send(converter, entering, leaving).map_err(refused)?;
-        }
-        shortest = shortest.min(start.elapsed(rt)?.as_nanos());
+    let mut shortest = round(rt, converter, way, entering, leaving)?;
+    for _ in 1..ROUNDS {
+        let spent = round(rt, converter, way, entering, leaving)?;
+        shortest.nanoseconds = shortest.nanoseconds.min(spent.nanoseconds);
     }
+    let bound = way.send(converter, entering, leaving).map_err(refused)?;
     let name = way.name();
     let sum = checksum(leaving);
     println!(rt; "  {name}: bound {bound} grains, checksum {sum}")?;
-    print_each(rt, "a pixel", shortest, u128::from(TIMES) * PIXELS as u128)
+    eprintln!(rt; "  a pixel: {shortest} nanoseconds")?;
+    Ok(())
 }
 
-// Fills a link, and prints how many nodes it has, and to standard error how long each took.
-fn fill(
+// Fills a link, and returns how many nodes it has and how long they took.
+pub(crate) fn fill<S: Stage>(
     rt: &HostRuntime,
-    kinds: &str,
-    converter: &mut Bench<'_>,
+    converter: &mut Converter<S>,
     table: &mut [u16],
-) -> anyhow::Result<()> {
-    converter.begin(table, u32::from(GRID)).map_err(refused)?;
+    grid: u8,
+) -> anyhow::Result<Spent> {
+    converter.begin(table, u32::from(grid)).map_err(refused)?;
     let start = Instant::now(rt)?;
     let filled = converter.fill(table, usize::MAX).map_err(refused)?;
-    let spent = start.elapsed(rt)?.as_nanos();
-    let stored = filled.stored;
-    println!(rt; "{kinds}: a link of {stored} nodes")?;
-    print_each(rt, "a node", spent, stored as u128)
+    Ok(Spent {
+        nanoseconds: start.elapsed(rt)?.as_nanos(),
+        things: filled.stored as u128,
+    })
 }
 
-// Fills a link of a lattice, and sends a row directly and through it.
+// A table for a link of a stage.
+pub(crate) fn table_of(heap: Global, shape: Shape) -> Result<Vec<u16>, AllocError> {
+    vec![in heap; 0u16; shape.entries()]
+}
+
+// Where a row leaves to.
+pub(crate) fn leaving_row<Q: Pixel>(heap: Global) -> Result<Vec<Q>, AllocError> {
+    vec![in heap; Q::make(&[0, 0, 0, 0]); PIXELS]
+}
+
+pub(crate) fn lattice(shape: Shape, nodes: &[u16]) -> anyhow::Result<Lattice<NodeTable<'_>>> {
+    Lattice::new(shape.ins, shape.outs, shape.grid, Table(nodes)).context("a lattice was refused")
+}
+
+// Fills a link of a lattice, prints how many nodes it has, and to standard error how long each took, and sends a row directly
+// and through it.
 fn fill_and_send<P: Pixel, Q: Pixel>(rt: &HostRuntime, kinds: &str) -> anyhow::Result<()> {
     let heap = rt.alloc();
     let shape = Shape {
@@ -130,19 +151,20 @@ fn fill_and_send<P: Pixel, Q: Pixel>(rt: &HostRuntime, kinds: &str) -> anyhow::R
         grid: STAGE_GRID,
     };
     let nodes = scattered::<u16>(heap, shape.entries())?;
-    let Some(stage) = Lattice::new(shape.ins, shape.outs, STAGE_GRID, Table(nodes.as_slice()))
-    else {
-        bail!("a lattice was refused");
-    };
-    let mut converter = Converter::new(stage);
-    let mut table = vec![in heap; 0u16; Shape {
-        grid: GRID,
-        ..shape
-    }
-    .entries()]?;
-    fill(rt, kinds, &mut converter, table.as_mut_slice())?;
+    let mut converter = Converter::new(lattice(shape, nodes.as_slice())?);
+    let mut table = table_of(
+        heap,
+        Shape {
+            grid: GRID,
+            ..shape
+        },
+    )?;
+    let spent = fill(rt, &mut converter, table.as_mut_slice(), GRID)?;
+    let stored = spent.things;
+    println!(rt; "{kinds}: a link of {stored} nodes")?;
+    eprintln!(rt; "  a node: {spent} nanoseconds")?;
     let entering = pixels::<P>(heap)?;
-    let mut leaving = vec![in heap; Q::make(&[0, 0, 0, 0]); PIXELS]?;
+    let mut leaving = leaving_row::<Q>(heap)?;
     for way in [Way::Direct, Way::Link(table.as_slice())] {
         send(
             rt,
