@@ -1,5 +1,4 @@
-// Little CMS's part of what compare.sh sets side by side. Lattices, curves and pictures are made by the same rules as in
-// crates/bench/src/main.rt and compare.rt.
+// Little CMS's part of what compare.sh sets side by side, with the lattices, curves and pictures that crates/bench makes.
 //     littlecms compare ROUNDS   a line for each round: what, pixels, grid points, picture, nanoseconds, setting
 //     littlecms leaving          a line for each row: what, pixels, grid points, picture, and the counts that leave
 #include <lcms2.h>

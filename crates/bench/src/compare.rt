@@ -1,7 +1,7 @@
 // The rows, links and profiles whose times bench/compare.sh sets beside those of another engine. bench/littlecms.c makes the
 // same lattices, curves and pictures.
-use crate::profiles::{Tone, Tones, open_often, opened, profile_of};
-use crate::rows::{PIXELS, Way, fill, lattice, leaving_row, refused, round, table_of};
+use crate::profiles::{LATTICE, Tone, Tones, open_often, opened, profile_of};
+use crate::rows::{PIXELS, Way, fill, lattice, leaving_row, pixels, refused, round, table_of};
 use crate::spent::Spent;
 use crate::{Shape, scrambled};
 use link::{Cmyk8, Converter, Pixel, Rgb8, Rgb16};
@@ -26,13 +26,6 @@ const ELEMENT_GRID: u8 = 17;
 const TONES: Tones = Tones {
     input: Tone::Lower,
     output: Tone::Higher,
-};
-
-// The profile that is opened.
-const OPENED: Shape = Shape {
-    ins: Channels::Three,
-    outs: Channels::Four,
-    grid: 33,
 };
 
 #[derive(Clone, Copy)]
@@ -62,8 +55,7 @@ impl Picture {
             .take(4 * PIXELS)
             .map(|number| self.count(number))
             .collect(heap)?;
-        let (colours, _) = counts.as_slice().as_chunks::<4>();
-        colours.iter().map(|colour| P::make(colour)).collect(heap)
+        pixels(heap, counts.as_slice())
     }
 }
 
@@ -264,11 +256,11 @@ fn run_opening(rt: &HostRuntime, task: Task) -> anyhow::Result<()> {
     let Task::Time { rounds } = task else {
         return Ok(());
     };
-    let bytes = shaded_profile(rt.alloc(), OPENED)?;
+    let bytes = shaded_profile(rt.alloc(), LATTICE)?;
     let label = Label {
         what: "open",
         kinds: "RGB8-CMYK8",
-        grid: OPENED.grid,
+        grid: LATTICE.grid,
         picture: "-",
     };
     for _ in 0..rounds {

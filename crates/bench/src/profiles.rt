@@ -9,7 +9,7 @@ use std::alloc::{AllocError, Global};
 use std::time::Instant;
 
 // The profile's lattice, and the entries of each of its curves.
-const LATTICE: Shape = Shape {
+pub(crate) const LATTICE: Shape = Shape {
     ins: Channels::Three,
     outs: Channels::Four,
     grid: 33,

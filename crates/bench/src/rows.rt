@@ -21,10 +21,9 @@ const TIMES: u32 = 100;
 
 const ROUNDS: u32 = 20;
 
-// Pixels in no order.
-fn pixels<P: Pixel>(heap: Global) -> Result<Vec<P>, AllocError> {
-    let counts = scattered::<u16>(heap, 4 * PIXELS)?;
-    let (colours, _) = counts.as_slice().as_chunks::<4>();
+// Pixels of counts, four for each.
+pub(crate) fn pixels<P: Pixel>(heap: Global, counts: &[u16]) -> Result<Vec<P>, AllocError> {
+    let (colours, _) = counts.as_chunks::<4>();
     colours.iter().map(|colour| P::make(colour)).collect(heap)
 }
 
@@ -163,7 +162,8 @@ fn fill_and_send<P: Pixel, Q: Pixel>(rt: &HostRuntime, kinds: &str) -> anyhow::R
     let stored = spent.things;
     println!(rt; "{kinds}: a link of {stored} nodes")?;
     eprintln!(rt; "  a node: {spent} nanoseconds")?;
-    let entering = pixels::<P>(heap)?;
+    let counts = scattered::<u16>(heap, 4 * PIXELS)?;
+    let entering = pixels::<P>(heap, counts.as_slice())?;
     let mut leaving = leaving_row::<Q>(heap)?;
     for way in [Way::Direct, Way::Link(table.as_slice())] {
         send(
