@@ -157,12 +157,18 @@ impl<S: Stage> Converter<S> {
         entering: &[P],
         leaving: &mut [Q],
     ) -> u32
-        requires { length entering.now ≡ length leaving.old }
+        requires enters { (S.Stage.meaning self.now.stage.stage).ins ≡ P.Pixel.kind.channels }
+        requires leaves { (S.Stage.meaning self.now.stage.stage).outs ≡ Q.Pixel.kind.channels }
+        requires lengths { length entering.now ≡ length leaving.old }
         ensures bound { result ≡ row_bound (link (S.Stage.meaning self.now.stage.stage) lent.entry.grid.0 lent.entry.nodes.now) Q.Pixel.kind.error }
         ensures leaving { leaving.new ≡ row_pixels (link (S.Stage.meaning self.now.stage.stage) lent.entry.grid.0 lent.entry.nodes.now) P.Pixel.kind Q.Pixel.kind entering.now }
     {
-        let lattice = lent.lattice(self.stage.ins(), self.stage.outs());
-        deliver(&lattice, self.error_with(lent.grid), entering, leaving)
+        deliver(
+            &lent.for_row::<P, Q>(),
+            self.error_with(lent.grid),
+            entering,
+            leaving,
+        )
     }
 
     pub(crate) fn pinned_link_row<P: Pixel, Q: Pixel>(

@@ -1,6 +1,6 @@
 // The row call: a row of pixels through a stage, with the error bound of what it delivers.
 // Stage, entering and leaving row are the call's own parameters, and its parts take them as they come.
-ghost use Rattle.std.specs.Prelude.{◌≡◌, ◌+◌, min, length};
+ghost use Rattle.std.specs.Prelude.{◌≡◌, ◌+◌, min, length, None};
 ghost use Rattle.meaning.specs.Colours.{full_range};
 ghost use Rattle.link.specs.Refusals.{Accepted};
 ghost use Rattle.link.specs.Rows.{row_refusal, row_answer, row_left, row_pixel, row_pixels, Delivers};
@@ -16,7 +16,9 @@ pub(crate) fn pixels_refused<S: Stage, P: Pixel, Q: Pixel>(
     entering: &[P],
     leaving: &[Q],
 ) -> Option<Refusal>
-    ensures { result ≡ row_refusal (S.Stage.meaning stage.now) P.Pixel.kind.channels Q.Pixel.kind.channels (length entering.now) (length leaving.now) }
+    ensures answer { result ≡ row_refusal (S.Stage.meaning stage.now) P.Pixel.kind.channels Q.Pixel.kind.channels (length entering.now) (length leaving.now) }
+    ensures enters { result ≡ None → (S.Stage.meaning stage.now).ins ≡ P.Pixel.kind.channels }
+    ensures leaves { result ≡ None → (S.Stage.meaning stage.now).outs ≡ Q.Pixel.kind.channels }
 {
     if stage.ins() != P::channels() || stage.outs() != Q::channels() {
         Some(Refusal::PixelChannels)

@@ -24,7 +24,8 @@ impl fmt::Display for Layer {
     ghost output = { λ layer. Some (name_of layer) };
 
     fn fmt<W: fmt::Write>(&self, f: &mut fmt::Formatter<W>) -> fmt::Result {
-        f.write_str(self.name())
+        let layer = self.name();
+        f.write_str(layer)
     }
 }
 
