@@ -74,36 +74,3 @@ pub(crate) fn opened<'a>(
         }
     }
 }
-
-#[cfg(test)]
-mod tests {
-    use super::*;
-    use profile::Fault;
-    use std::test::Fail;
-
-    const SENTENCES: [(ChainError, &str); 3] = [
-        (
-            ChainError::Profile {
-                position: 1,
-                fault: Fault::GridPoints { element: 144 },
-            },
-            "profile 1, counted from 0: fault 10, element, byte 154: the lattice has fewer than 2 grid points",
-        ),
-        (
-            ChainError::Spaces { position: 2 },
-            "profile 2, counted from 0: fault 13, it does not take the space that the profile before it gives",
-        ),
-        (
-            ChainError::Memory { position: 1 },
-            "there is not enough memory",
-        ),
-    ];
-
-    #[test]
-    fn a_fault_is_told_with_all_that_is_known_of_it(rt: HostRuntime) -> Result<(), Fail> {
-        for (error, sentence) in SENTENCES {
-            assert_eq!(rt; NotOpened(error).to_string(rt.alloc())?.as_str(), sentence);
-        }
-        Ok(())
-    }
-}

@@ -157,18 +157,3 @@ pub(crate) fn run(rt: &HostRuntime) -> anyhow::Result<()> {
     let link = link.into_iter().zip(proved.link);
     compare(rt, curves.chain(cube).chain(fading).chain(link))
 }
-
-#[cfg(test)]
-mod tests {
-    use super::*;
-
-    #[test]
-    fn a_figure_that_differs_fails(rt: HostRuntime) {
-        let figure = Figure {
-            name: "one",
-            measured: 1,
-        };
-        assert!(rt; compare(&rt, [figure].into_iter().zip([1])).is_ok());
-        assert!(rt; compare(&rt, [figure, figure].into_iter().zip([2, 1])).is_err());
-    }
-}

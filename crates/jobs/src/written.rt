@@ -157,23 +157,3 @@ pub(crate) fn write_link<S: Stage>(
         }
     }
 }
-
-#[cfg(test)]
-mod tests {
-    use super::*;
-
-    #[test]
-    fn checksums_are_the_published_ones(rt: HostRuntime) {
-        assert_eq!(rt; checksum(b""), 0xcbf2_9ce4_8422_2325);
-        assert_eq!(rt; checksum(b"a"), 0xaf63_dc4c_8601_ec8c);
-        assert_eq!(rt; checksum(b"foobar"), 0x8594_4171_f739_67e8);
-    }
-
-    #[test]
-    fn numbers_are_stored_high_byte_first(rt: HostRuntime) {
-        assert!(rt; is_stored(&[1, 65_280], &[0, 1, 255, 0]));
-        assert!(rt; !is_stored(&[1, 65_280], &[0, 1, 0, 255]));
-        assert!(rt; !is_stored(&[1, 65_280], &[0, 1]));
-        assert!(rt; !is_stored(&[1], &[0, 1, 255]));
-    }
-}
