@@ -35,7 +35,7 @@ pub(crate) fn grid_of_link(points: u32) -> Option<Grid>
 
 impl<S: Stage> Converter<S> {
     pub(crate) fn pinned_new(stage: S) -> Converter<S>
-        ensures stage { result.stage.stage ≡ stage }
+        ensures stage { result.stage ≡ stage }
         ensures state { result.state ≡ Empty }
     {
         Converter {
@@ -53,7 +53,7 @@ impl<S: Stage> Converter<S> {
 
     // How many numbers a link with so many grid points has.
     pub(crate) fn numbers_of(&self, points: u8) -> usize
-        ensures value { result ≡ numbers_of (S.Stage.meaning self.now.stage.stage) points }
+        ensures value { result ≡ numbers_of (S.Stage.meaning self.now.stage) points }
         ensures limit { result ≤ 2 ^ 34 }
     {
         lattice_entries(self.stage.ins(), self.stage.outs(), points)
@@ -61,14 +61,14 @@ impl<S: Stage> Converter<S> {
 
     // Whether a table of so many numbers holds a link with so many grid points.
     fn held_by(&self, points: u8, numbers: usize) -> bool
-        ensures { result ≡ nat_le (numbers_of (S.Stage.meaning self.now.stage.stage) points) numbers }
+        ensures { result ≡ nat_le (numbers_of (S.Stage.meaning self.now.stage) points) numbers }
     {
         self.numbers_of(points) <= numbers
     }
 
     pub(crate) fn pinned_begin(&mut self, points: u32, table: &[u16]) -> Result<(), Refusal>
-        ensures answer { result ≡ answered (begin_refusal (S.Stage.meaning self.old.stage.stage) points (length table.now)) tt }
-        ensures state { self.new.state ≡ left (begin_refusal (S.Stage.meaning self.old.stage.stage) points (length table.now)) self.old.state (Filling (record { 0 = points }) 0) }
+        ensures answer { result ≡ answered (begin_refusal (S.Stage.meaning self.old.stage) points (length table.now)) tt }
+        ensures state { self.new.state ≡ left (begin_refusal (S.Stage.meaning self.old.stage) points (length table.now)) self.old.state (Filling (record { 0 = points }) 0) }
         ensures stage { self.new.stage ≡ self.old.stage }
     {
         let grid = grid_of_link(points).ok_or(Refusal::GridPoints)?;
@@ -81,9 +81,9 @@ impl<S: Stage> Converter<S> {
 
     // Stores the answers at the next nodes of a filling link, in the part of the table that holds just them.
     fn store_next(&self, count: usize, table: &mut [u16])
-        requires count { count ≤ missing_nodes (S.Stage.meaning self.now.stage.stage).ins self.now.state }
-        requires room { link_numbers (S.Stage.meaning self.now.stage.stage) self.now.state ≤ length table.old }
-        ensures { table.new ≡ stored_table (S.Stage.meaning self.now.stage.stage) self.now.state count table.old }
+        requires count { count ≤ missing_nodes (S.Stage.meaning self.now.stage).ins self.now.state }
+        requires room { link_numbers (S.Stage.meaning self.now.stage) self.now.state ≤ length table.old }
+        ensures { table.new ≡ stored_table (S.Stage.meaning self.now.stage) self.now.state count table.old }
     {
         match self.state {
             State::Empty | State::Full { .. } => (),
@@ -105,9 +105,9 @@ impl<S: Stage> Converter<S> {
         table: &mut [u16],
         budget: usize,
     ) -> Result<Filled, Refusal>
-        ensures answer { result ≡ answered (fill_refusal (S.Stage.meaning self.old.stage.stage) self.old.state (length table.old)) (filled (S.Stage.meaning self.old.stage.stage) self.old.state budget) }
-        ensures state { self.new.state ≡ left (fill_refusal (S.Stage.meaning self.old.stage.stage) self.old.state (length table.old)) self.old.state (filled_state (S.Stage.meaning self.old.stage.stage).ins self.old.state budget) }
-        ensures table { table.new ≡ left (fill_refusal (S.Stage.meaning self.old.stage.stage) self.old.state (length table.old)) table.old (filled_table (S.Stage.meaning self.old.stage.stage) self.old.state budget table.old) }
+        ensures answer { result ≡ answered (fill_refusal (S.Stage.meaning self.old.stage) self.old.state (length table.old)) (filled (S.Stage.meaning self.old.stage) self.old.state budget) }
+        ensures state { self.new.state ≡ left (fill_refusal (S.Stage.meaning self.old.stage) self.old.state (length table.old)) self.old.state (filled_state (S.Stage.meaning self.old.stage).ins self.old.state budget) }
+        ensures table { table.new ≡ left (fill_refusal (S.Stage.meaning self.old.stage) self.old.state (length table.old)) table.old (filled_table (S.Stage.meaning self.old.stage) self.old.state budget table.old) }
         ensures stage { self.new.stage ≡ self.old.stage }
     {
         let ins = self.stage.ins();
@@ -127,11 +127,11 @@ impl<S: Stage> Converter<S> {
 
     // The link as a table holds it.
     fn lent<'t>(&self, table: &'t [u16]) -> Result<LentLink<'t>, Refusal>
-        ensures refused { refused result ≡ lent_refusal (S.Stage.meaning self.now.stage.stage) self.now.state (length table.now) }
+        ensures refused { refused result ≡ lent_refusal (S.Stage.meaning self.now.stage) self.now.state (length table.now) }
         ensures grid { IfOk result (λ link. link.grid.0 ≡ grid_points self.now.state) }
         ensures limit { IfOk result (λ link. length link.nodes.now ≤ 2 ^ 34) }
-        ensures long { IfOk result (λ link. length link.nodes.now ≡ link_numbers (S.Stage.meaning self.now.stage.stage) self.now.state) }
-        ensures nodes { IfOk result (λ link. link.nodes.now ≡ take (link_numbers (S.Stage.meaning self.now.stage.stage) self.now.state) table.now) }
+        ensures long { IfOk result (λ link. length link.nodes.now ≡ link_numbers (S.Stage.meaning self.now.stage) self.now.state) }
+        ensures nodes { IfOk result (λ link. link.nodes.now ≡ take (link_numbers (S.Stage.meaning self.now.stage) self.now.state) table.now) }
     {
         let grid = self.state.grid().ok_or(Refusal::NoLink)?;
         if !self.held_by(grid.points(), table.len()) {
@@ -145,7 +145,7 @@ impl<S: Stage> Converter<S> {
 
     // The error bound of a link with that grid.
     fn error_with(&self, grid: Grid) -> u32
-        ensures { result ≡ error_of_link (S.Stage.meaning self.now.stage.stage).error (S.Stage.meaning self.now.stage.stage).steepness grid.0 }
+        ensures { result ≡ error_of_link (S.Stage.meaning self.now.stage).error (S.Stage.meaning self.now.stage).steepness grid.0 }
     {
         link_error(self.stage.error(), self.stage.steepness(), grid.points())
     }
@@ -157,11 +157,11 @@ impl<S: Stage> Converter<S> {
         entering: &[P],
         leaving: &mut [Q],
     ) -> u32
-        requires enters { (S.Stage.meaning self.now.stage.stage).ins ≡ P.Pixel.kind.channels }
-        requires leaves { (S.Stage.meaning self.now.stage.stage).outs ≡ Q.Pixel.kind.channels }
+        requires enters { (S.Stage.meaning self.now.stage).ins ≡ P.Pixel.kind.channels }
+        requires leaves { (S.Stage.meaning self.now.stage).outs ≡ Q.Pixel.kind.channels }
         requires lengths { length entering.now ≡ length leaving.old }
-        ensures bound { result ≡ row_bound (link (S.Stage.meaning self.now.stage.stage) lent.entry.grid.0 lent.entry.nodes.now) Q.Pixel.kind.error }
-        ensures leaving { leaving.new ≡ row_pixels (link (S.Stage.meaning self.now.stage.stage) lent.entry.grid.0 lent.entry.nodes.now) P.Pixel.kind Q.Pixel.kind entering.now }
+        ensures bound { result ≡ row_bound (link (S.Stage.meaning self.now.stage) lent.entry.grid.0 lent.entry.nodes.now) Q.Pixel.kind.error }
+        ensures leaving { leaving.new ≡ row_pixels (link (S.Stage.meaning self.now.stage) lent.entry.grid.0 lent.entry.nodes.now) P.Pixel.kind Q.Pixel.kind entering.now }
     {
         deliver(
             &lent.for_row::<P, Q>(),
@@ -177,8 +177,8 @@ impl<S: Stage> Converter<S> {
         entering: &[P],
         leaving: &mut [Q],
     ) -> Result<u32, Refusal>
-        ensures answer { result ≡ link_row_answer (S.Stage.meaning self.now.stage.stage) self.now.state table.now P.Pixel.kind Q.Pixel.kind entering.now leaving.old }
-        ensures leaving { leaving.new ≡ link_row_left (S.Stage.meaning self.now.stage.stage) self.now.state table.now P.Pixel.kind Q.Pixel.kind entering.now leaving.old }
+        ensures answer { result ≡ link_row_answer (S.Stage.meaning self.now.stage) self.now.state table.now P.Pixel.kind Q.Pixel.kind entering.now leaving.old }
+        ensures leaving { leaving.new ≡ link_row_left (S.Stage.meaning self.now.stage) self.now.state table.now P.Pixel.kind Q.Pixel.kind entering.now leaving.old }
     {
         if let Some(refusal) = pixels_refused(&self.stage, entering, leaving) {
             return Err(refusal);
@@ -189,7 +189,7 @@ impl<S: Stage> Converter<S> {
     }
 
     pub(crate) fn pinned_quote(&self) -> Quote
-        ensures { result ≡ quoted (S.Stage.meaning self.now.stage.stage) self.now.state }
+        ensures { result ≡ quoted (S.Stage.meaning self.now.stage) self.now.state }
     {
         Quote {
             stage: self.stage.error(),
@@ -199,15 +199,15 @@ impl<S: Stage> Converter<S> {
 
     // How many bytes a link with that grid has when it is written.
     pub(crate) fn length_with(&self, grid: Grid) -> usize
-        ensures { result ≡ written_length (S.Stage.meaning self.now.stage.stage).ins (S.Stage.meaning self.now.stage.stage).outs (numbers_of (S.Stage.meaning self.now.stage.stage) grid.0) }
+        ensures { result ≡ written_length (S.Stage.meaning self.now.stage).ins (S.Stage.meaning self.now.stage).outs (numbers_of (S.Stage.meaning self.now.stage) grid.0) }
     {
         let numbers = self.numbers_of(grid.points());
         written_length(self.stage.ins(), self.stage.outs(), numbers)
     }
 
     pub(crate) fn pinned_write(&self, table: &[u16], output: &mut [u8]) -> Result<usize, Refusal>
-        ensures answer { result ≡ answered (write_refusal (S.Stage.meaning self.now.stage.stage) self.now.state (length table.now) (length output.old)) (link_length (S.Stage.meaning self.now.stage.stage) self.now.state) }
-        ensures output { output.new ≡ left (write_refusal (S.Stage.meaning self.now.stage.stage) self.now.state (length table.now) (length output.old)) output.old (written_output (S.Stage.meaning self.now.stage.stage) self.now.state table.now output.old) }
+        ensures answer { result ≡ answered (write_refusal (S.Stage.meaning self.now.stage) self.now.state (length table.now) (length output.old)) (link_length (S.Stage.meaning self.now.stage) self.now.state) }
+        ensures output { output.new ≡ left (write_refusal (S.Stage.meaning self.now.stage) self.now.state (length table.now) (length output.old)) output.old (written_output (S.Stage.meaning self.now.stage) self.now.state table.now output.old) }
     {
         let ins = self.stage.ins();
         let outs = self.stage.outs();

@@ -6,13 +6,24 @@ use Rattle.meaning.specs.Distances.{gap}
 use Rattle.stage.specs.declared.curves.Curves.{Curves}
 use Rattle.stage.specs.declared.curves.TableLength.{TableLength}
 
--- a table has 2 to 4,096 entries
-abbrev pub table_length : ℕ → Option TableLength
-table_length n = cond (nat_le 2 n && nat_le n 4096) (Some (record { 0 = n })) None
+-- how many entries a table of some length has, and the length of a table with that many
+abbrev pub entries : TableLength → ℕ
+entries length = length.0
 
--- such tables make curves; others are refused
+abbrev pub length_with : ℕ → TableLength
+length_with n = record { 0 = n }
+
+-- a table has 2 to 4,096 entries; no other number makes one
+abbrev pub table_length : ℕ → Option TableLength
+table_length n = cond (nat_le 2 n && nat_le n 4096) (Some (length_with n)) None
+
+-- curves of n entries a table over a source of entries
+abbrev pub curves_with : {E : Type 0} → Channels → ℕ → E → Curves E
+curves_with w n table = record { channels = w; length = n; table = table }
+
+-- tables of 2 to 4,096 entries make curves; others do not
 abbrev pub curves_over : {E : Type 0} → Channels → ℕ → E → Option (Curves E)
-curves_over w n table = cond (nat_le 2 n && nat_le n 4096) (Some (record { channels = w; length = n; table = table })) None
+curves_over w n table = cond (nat_le 2 n && nat_le n 4096) (Some (curves_with w n table)) None
 
 -- entry i of channel k's table; `counts` is what the source of the entries means
 abbrev pub curve_entry : {E : Type 0} → (E → List ℕ) → Curves E → ℕ → ℕ → ℕ

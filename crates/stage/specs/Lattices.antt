@@ -12,12 +12,27 @@ use Rattle.stage.specs.declared.lattice.Cell.{Cell}
 use Rattle.stage.specs.declared.lattice.Cell.TheVariants.{Alone, Paired}
 use Rattle.stage.specs.Legs.{idle, leg, sorted, reach, reach_all}
 
--- a lattice has 2 grid points or more in each channel
-abbrev pub grid_of : ℕ → Option Grid
-grid_of g = cond (nat_le 2 g) (Some (record { 0 = g })) None
+-- how many points a grid has, and the grid of that many
+abbrev pub points : Grid → ℕ
+points grid = grid.0
 
+abbrev pub grid_with : ℕ → Grid
+grid_with g = record { 0 = g }
+
+-- a grid has 2 points or more; no other number makes one
+abbrev pub grid_of : ℕ → Option Grid
+grid_of g = cond (nat_le 2 g) (Some (grid_with g)) None
+
+-- a lattice of g grid points over a source of entries, and how many grid points a lattice has
+abbrev pub lattice_with : {E : Type 0} → Channels → Channels → ℕ → E → Lattice E
+lattice_with i o g table = record { ins = i; outs = o; grid = g; table = table }
+
+abbrev pub lattice_points : {E : Type 0} → Lattice E → ℕ
+lattice_points lattice = lattice.grid
+
+-- 2 grid points or more make a lattice; no other number does
 abbrev pub lattice_over : {E : Type 0} → Channels → Channels → ℕ → E → Option (Lattice E)
-lattice_over i o g table = cond (nat_le 2 g) (Some (record { ins = i; outs = o; grid = g; table = table })) None
+lattice_over i o g table = cond (nat_le 2 g) (Some (lattice_with i o g table)) None
 
 -- the entries that a step passes over in each of four channels, with o outputs a node and g grid points a channel:
 -- one node in the last channel, and g times as many in each channel before it

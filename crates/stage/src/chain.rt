@@ -9,8 +9,8 @@ use meaning::{Channels, joined_error, joined_steepness};
 // One stage or more, each of which runs after the one before it.
 #[derive_where(Clone, Copy)]
 pub struct Chain<'a, S> {
-    first: &'a S,
-    rest: &'a [S],
+    pub first: &'a S,
+    pub rest: &'a [S],
 }
 
 impl<'a, S> Chain<'a, S> {

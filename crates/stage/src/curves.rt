@@ -4,7 +4,7 @@ ghost use Rattle.meaning.proofs.CurveLaws.{curves_lawful};
 ghost use Rattle.meaning.specs.Colours.{number, rounded};
 ghost use Rattle.meaning.specs.Curves.{curves};
 ghost use Rattle.meaning.specs.Sums.{largest_below, samples};
-ghost use Rattle.stage.specs.Curves.{table_length, curves_over, curve_entry, curve_step};
+ghost use Rattle.stage.specs.Curves.{entries, table_length, curves_over, curves_with, curve_entry, curve_step};
 
 use crate::entries::Entries;
 use crate::folding::{colour_of, largest};
@@ -27,7 +27,7 @@ impl TableLength {
     }
 
     pub fn entries(self) -> u16
-        ensures { result ≡ self.0 }
+        ensures { result ≡ entries self }
     {
         self.0
     }
@@ -39,7 +39,7 @@ impl TableLength {
 pub struct Curves<E> {
     channels: Channels,
     length: u16,
-    table: E,
+    pub table: E,
 }
 
 // The curve of one channel. It, `Row` and `Plane` are parts of a whole, but a generic part would have no methods to share.
@@ -62,7 +62,7 @@ impl<E: Entries> Curves<E> {
 
     // Curves whose tables have that many entries.
     pub fn over(channels: Channels, length: TableLength, table: E) -> Curves<E>
-        ensures { result ≡ record { channels = channels; length = length.0; table = table } }
+        ensures { result ≡ curves_with channels (entries length) table }
     {
         Curves {
             channels,

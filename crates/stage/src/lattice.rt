@@ -5,7 +5,7 @@ ghost use Rattle.meaning.specs.Colours.{number, nearest};
 ghost use Rattle.meaning.specs.Lattices.{lattice, entries_of_lattice};
 ghost use Rattle.meaning.specs.Sums.{sum_below};
 ghost use Rattle.meaning.specs.Curves.{entry};
-ghost use Rattle.stage.specs.Lattices.{grid_of, lattice_over, strides, cell, cell_exact};
+ghost use Rattle.stage.specs.Lattices.{grid_of, lattice_over, lattice_points, lattice_with, points, strides, cell, cell_exact};
 ghost use Rattle.stage.specs.Legs.{reach_all};
 
 use crate::entries::Entries;
@@ -27,7 +27,7 @@ impl Grid {
     }
 
     pub fn points(self) -> u8
-        ensures { result ≡ self.0 }
+        ensures { result ≡ points self }
     {
         self.0
     }
@@ -40,7 +40,7 @@ pub struct Lattice<E> {
     pub(crate) ins: Channels,
     pub(crate) outs: Channels,
     pub(crate) grid: u8,
-    pub(crate) table: E,
+    pub table: E,
 }
 
 // Where a colour lies in a lattice: the legs of up to three channels, and before them that of the first of four.
@@ -88,7 +88,7 @@ impl<E: Entries> Lattice<E> {
 
     // A lattice with that many grid points.
     pub fn over(ins: Channels, outs: Channels, grid: Grid, table: E) -> Lattice<E>
-        ensures { result ≡ record { ins = ins; outs = outs; grid = grid.0; table = table } }
+        ensures { result ≡ lattice_with ins outs (points grid) table }
     {
         Lattice {
             ins,
@@ -100,7 +100,7 @@ impl<E: Entries> Lattice<E> {
 
     // Its grid points.
     pub fn grid(&self) -> Grid
-        ensures { result.0 ≡ self.now.grid }
+        ensures { points result ≡ lattice_points self.now }
     {
         Grid(self.grid)
     }

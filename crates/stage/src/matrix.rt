@@ -11,7 +11,7 @@ use meaning::{Channels, FULL_RANGE, GRAINS, UNCLAIMED, matrix_error};
 // Coefficients in 65,536ths, row after row: row j gives channel j, and multiplies channel 0 first.
 #[derive(Clone, Copy)]
 pub struct Matrix {
-    coefficients: [i32; 9],
+    pub coefficients: [i32; 9],
 }
 
 // One row of a matrix.

@@ -4,6 +4,7 @@ ghost use Rattle.meaning.specs.Stages.{Meaning, Lawful};
 
 use crate::traits::{Colour, Stage};
 use meaning::Channels;
+use std::marker::Model;
 
 // A stage that keeps its steepness and error, so that telling them takes no time.
 #[derive(Drop)]
@@ -11,14 +12,24 @@ pub struct Rated<S: Stage> {
     stage: S,
     steepness: u32,
     error: u32,
-    ghost steep: { steepness ≡ (S.Stage.meaning stage).steepness },
-    ghost close: { error ≡ (S.Stage.meaning stage).error },
+}
+
+impl<S: Stage> Model for Rated<S> {
+    ghost use Rattle.std.specs.Prelude.{◌≡◌};
+
+    ghost Value = { S };
+
+    ghost view = { λ r. r.stage };
+
+    ghost invariant = { λ r.
+        (r.steepness ≡ (S.Stage.meaning r.stage).steepness)
+        × (r.error ≡ (S.Stage.meaning r.stage).error) };
 }
 
 impl<S: Stage> Rated<S> {
     // The stage with its figures, which are worked out here.
     pub fn new(stage: S) -> Rated<S>
-        ensures { result.stage ≡ stage }
+        ensures { result ≡ stage }
     {
         let steepness = stage.steepness();
         let error = stage.error();
@@ -30,16 +41,16 @@ impl<S: Stage> Rated<S> {
     }
 
     pub fn stage(&self) -> &S
-        ensures { result.now ≡ self.now.stage }
+        ensures { result.now ≡ self.now }
     {
         &self.stage
     }
 }
 
 impl<S: Stage> Stage for Rated<S> {
-    ghost meaning = { λ s. S.Stage.meaning s.stage };
+    ghost meaning = { λ s. S.Stage.meaning s };
 
-    ghost lawful = { λ s. S.Stage.lawful s.stage };
+    ghost lawful = { λ s. S.Stage.lawful s };
 
     fn ins(&self) -> Channels {
         self.stage.ins()

@@ -7,5 +7,5 @@ use Rattle.link.proofs.converter.Converter.drop_link.Goals as goal
 pub returns-clause-run : goal.returns-clause-run
 returns-clause-run g c = λ table.
     let s = c.args.self.now in
-    continues (g.S.Stage.meaning s.stage.stage) (g.S.Stage.lawful s.stage.stage) (record { call = drop_link; refused = None }) s.state table c.pinned_drop.new.self.state table
+    continues (g.S.Stage.meaning s.stage) (g.S.Stage.lawful s.stage) (record { call = drop_link; refused = None }) s.state table c.pinned_drop.new.self.state table
     (record { refused = refl; state = c.pinned_drop.ensures.state; table = refl })

@@ -10,8 +10,8 @@ pub returns-clause-law : goal.returns-clause-law
 unfolding After_runs
 returns-clause-law g c = λ t₀ log r.
     let s = c.args.self.now in
-    let m = g.S.Stage.meaning s.stage.stage in
-    let lawful = g.S.Stage.lawful s.stage.stage in
+    let m = g.S.Stage.meaning s.stage in
+    let lawful = g.S.Stage.lawful s.stage in
     let sent = c.pinned_link_row in
     let kept = run_kept m lawful t₀ log s.state c.args.table.now r in
     let within =
@@ -21,7 +21,7 @@ returns-clause-law g c = λ t₀ log r.
 pub returns-clause-run : goal.returns-clause-run
 returns-clause-run g c =
     let s = c.args.self.now in
-    let m = g.S.Stage.meaning s.stage.stage in
+    let m = g.S.Stage.meaning s.stage in
     let sent = c.pinned_link_row in
-    continues m (g.S.Stage.lawful s.stage.stage) (record { call = link_row (row_of g.P.Pixel.kind g.Q.Pixel.kind c.args.entering.now c.args.leaving.now); refused = refused sent.result }) s.state c.args.table.now s.state c.args.table.now
+    continues m (g.S.Stage.lawful s.stage) (record { call = link_row (row_of g.P.Pixel.kind g.Q.Pixel.kind c.args.entering.now c.args.leaving.now); refused = refused sent.result }) s.state c.args.table.now s.state c.args.table.now
     (record { refused = refused_answered _ _ sent.result sent.ensures.answer; state = left_same (refused sent.result) s.state; table = left_same (refused sent.result) c.args.table.now })

@@ -11,7 +11,7 @@ use Rattle.link.proofs.converter.Converter.read_back.Goals as goal
 pub returns-clause-answer : goal.returns-clause-answer
 returns-clause-answer g c =
     let s = c.args.self.now in
-    let m = g.S.Stage.meaning s.stage.stage in
+    let m = g.S.Stage.meaning s.stage in
     let table = c.args.table.now in
     let colour = c.args.colour.now in
     let long = c.in_ok-length.length in
