@@ -2,12 +2,9 @@
 use Rattle.std.proofs.Common.{◌≡◌, ℕ, suc, ◌+◌, ◌-◌, ◌*◌, ◌<◌, ◌≤◌, List, ◌++◌, length, take, drop, sym, refl, ap, ◌∙◌, mul-le-mul_right, arith}
 use borrow.Rule.Slice.PartMut.{put_mid, mid_of, same_len_mid}
 use Rattle.std.proofs.lemmas.Slice.{take-put_mid}
-use Rattle.std.proofs.lemmas.List.{length-take-le, length-drop, take-append-drop, take_all}
-use Rattle.meaning.specs.Colours.{number}
+use Rattle.std.proofs.lemmas.List.{length-take-le, length-drop, take_all}
 use Rattle.meaning.specs.Stages.{Meaning}
 use Rattle.meaning.specs.Links.{node_answer, nodes_from}
-use Rattle.link.specs.declared.state.State.{State}
-use Rattle.link.specs.Calls.{next_node, stored_table}
 use Rattle.meaning.proofs.Baking.{nodes_next}
 
 -- the first k of `count` nodes are stored in a part of o numbers each
@@ -39,11 +36,3 @@ module _ (m : Meaning) (g first count o : ℕ) where
   -- all are stored
   pub all_stored : (part : List ℕ) → Stored m g first count o count part → part ≡ nodes_from m g first count
   all_stored part h = sym (take_all (count * o) part (omega (arith, h.0))) ∙ h.1
-
--- where nothing is stored, the table stays
-pub nothing_stored : (m : Meaning) (s : State) (count : ℕ) (table : List ℕ) → count ≤ 0 → table ≡ stored_table m s count table
-unfolding nodes_from
-nothing_stored m s count table h =
-    let none : count ≡ 0 = omega (arith, h) in
-    let same : next_node m s + 0 ≡ next_node m s = omega arith in
-    rw (none, same) (sym (take-append-drop (next_node m s * number m.outs) table))

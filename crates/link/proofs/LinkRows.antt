@@ -1,8 +1,7 @@
 -- A row through a full link is within its bound of the stage's own exact values, after every run that led there. Assumes nothing.
-use Rattle.std.proofs.Common.{◌≡◌, ℕ, ◌≤◌, true, ◌&&◌, List, [], ◌∷◌, length, get_or, nat_le, ◌==◌, Option, Some, None, Result, refl, sym, subst, eqb-true}
+use Rattle.std.proofs.Common.{◌≡◌, ℕ, ◌≤◌, ◌&&◌, List, [], ◌∷◌, length, nat_le, ◌==◌, Option, Some, None, Result, refl, sym, ap, subst, eqb-true}
 use Rattle.std.proofs.lemmas.Bool.{and_parts}
-use Rattle.std.proofs.lemmas.List.{length-map, get_or-map}
-use Rattle.meaning.specs.declared.Channels.{Channels}
+use Rattle.std.proofs.lemmas.List.{length-map}
 use Rattle.meaning.specs.Colours.{number, whole}
 use Rattle.meaning.specs.Links.{baked, error_of_link, link, Plain}
 use Rattle.meaning.specs.Stages.{Meaning, Lawful}
@@ -10,32 +9,30 @@ use Rattle.meaning.proofs.Nearness.{valid_whole}
 use Rattle.meaning.proofs.Baking.{link_answers}
 use Rattle.meaning.proofs.LinkLaws.{links_are_close}
 use Rattle.link.specs.declared.refusal.Refusal.{Refusal}
-use Rattle.link.specs.declared.refusal.Refusal.TheVariants.{RowLengths, PixelChannels, TableLength, NoLink, FillingLink}
+use Rattle.link.specs.declared.refusal.Refusal.TheVariants.{RowLengths, PixelChannels, TableLength}
 use Rattle.link.specs.declared.state.State.{State}
 use Rattle.link.specs.declared.state.State.TheVariants as state
-use Rattle.link.specs.Calls.{begun, full, link_numbers, table_link, link_row_refusal, link_row_answer, link_row_left}
+use Rattle.link.specs.declared.state.Event.TheVariants.{LinkRow}
+use Rattle.stage.specs.Lattices.{points}
+use Rattle.link.specs.Calls.{link_checks, link_numbers, table_link, link_row_refusal, link_row_answer, link_row_left}
 use Rattle.link.specs.Kinds.{Kind, LawfulKind}
-use Rattle.link.specs.Refusals.{answered, left, Accepted}
-use Rattle.link.specs.Rows.{row_bound, row_pixel, row_pixels, Delivers}
-use Rattle.link.specs.Runs.{Log, Reached}
+use Rattle.link.specs.Refusals.{answered, first_refusal, left, unless, Accepted}
+use Rattle.link.specs.Rows.{RowShape, shape_of, row_answer, row_bound, row_left, row_pixel, row_pixels, row_refusal, Delivers}
+use Rattle.link.specs.Runs.{Log, Reached, EveryRunUpholds}
+use Rattle.link.specs.States.{no_use}
 use Rattle.link.proofs.LogLaws.{progress}
-use Rattle.link.proofs.RowLaws.{made_within}
-use Rattle.link.proofs.RefusalLaws.{first_holds}
-use Rattle.link.proofs.RunLaws.{Stands, run_stands}
+use Rattle.link.proofs.RowLaws.{leaving_pixel, made_within, row_accepted}
+use Rattle.link.proofs.RefusalLaws.{accepts, first_holds}
+use Rattle.link.proofs.RunLaws.{Stands, run_stands, run_logged}
 
 -- a link row that is accepted has the stage's in-channels, and the link is full
-link_row_accepts : (m : Meaning) (s : State) (numbers : ℕ) (enters leaves : Channels) (entering leaving : ℕ) → None ≡ link_row_refusal m s numbers enters leaves entering leaving →
-    (number m.ins ≡ number enters) × (full s ≡ true)
-link_row_accepts m s numbers enters leaves entering leaving h =
-    let room = (nat_le (link_numbers m s) numbers, TableLength) ∷ [] in
-    let filled = (full s, FillingLink) ∷ room in
-    let some = (begun s, NoLink) ∷ filled in
-    let long = (entering == leaving, RowLengths) ∷ some in
-    let channels = first_holds (number m.ins == number enters && number m.outs == number leaves) PixelChannels long h in
-    let lengths = first_holds (entering == leaving) RowLengths some channels.1 in
-    let there = first_holds (begun s) NoLink filled lengths.1 in
-    let is = first_holds (full s) FillingLink room there.1 in
-    (eqb-true (number m.ins) (number enters) (and_parts (number m.ins == number enters) (number m.outs == number leaves) channels.0).0, is.0)
+link_row_accepts : (m : Meaning) (s : State) (numbers : ℕ) (r : RowShape) → None ≡ link_row_refusal m s numbers r → (number m.ins ≡ number r.enters) × (no_use s ≡ None)
+link_row_accepts m s numbers r h =
+    let linked = link_checks m s LinkRow numbers in
+    let channels = first_holds (number m.ins == number r.enters && number m.outs == number r.leaves) PixelChannels (unless (r.entering == r.leaving) RowLengths ∷ linked) h in
+    let lengths = first_holds (r.entering == r.leaving) RowLengths linked channels.1 in
+    let used = accepts (no_use s) (unless (nat_le (link_numbers m s) numbers) TableLength ∷ []) lengths.1 in
+    (eqb-true (number m.ins) (number r.enters) (and_parts (number m.ins == number r.enters) (number m.outs == number r.leaves) channels.0).0, used.0)
 
 module _ {P Q : Type 0} (m : Meaning) (kp : Kind P) (kq : Kind Q) (laws : Lawful m) (lp : LawfulKind kp) (lq : LawfulKind kq) where
   -- what a pixel shows is 0 beyond the stage's in-channels, where these are the kind's
@@ -49,22 +46,28 @@ module _ {P Q : Type 0} (m : Meaning) (kp : Kind P) (kq : Kind Q) (laws : Lawful
       let l = link m g (baked m g) in
       record {
         as_long = length-map entering (row_pixel l kp kq);
-        within = λ i h p q k inside.
-            let pixel = get_or entering i p in
-            let c = kp.shown pixel in
-            let shown = lp.shows pixel in
-            rw (get_or-map (row_pixel l kp kq) entering i p q h)
+        within = λ place p q enters leaves k inside.
+            let c = kp.shown p in
+            let shown = lp.shows p in
+            rw (leaving_pixel (row_pixel l kp kq) entering place p q enters leaves)
             (made_within kq lq (error_of_link m.error m.steepness g) (l.answer c) (m.exact (whole c)) (link_answers m laws g (baked m g) c shown) (laws.stays (whole c) (valid_whole c shown))
-            (links_are_close m laws g grid c shown (shows_plain same pixel)) k inside);
+            (links_are_close m laws g grid c shown (shows_plain same p)) k inside);
       }
 
   -- so are those of a full link, by what a run leaves
-  full_delivers : (p : Option (ℕ × ℕ)) (s : State) (t : List ℕ) → Stands m p s t → full s ≡ true → number m.ins ≡ number kp.channels → (entering : List P) →
+  full_delivers : (p : Option (ℕ × ℕ)) (s : State) (t : List ℕ) → Stands m p s t → no_use s ≡ None → number m.ins ≡ number kp.channels → (entering : List P) →
       Delivers m kp kq entering (row_pixels (table_link m s t) kp kq entering) (row_bound (table_link m s t) kq.error)
   full_delivers p state.Empty t h is same entering = absurd (cc)
   full_delivers p (state.Filling g n) t h is same entering = absurd (cc)
   full_delivers p (state.Full g) t h is same entering =
-      subst (λ nodes. Delivers m kp kq entering (row_pixels (link m g.0 nodes) kp kq entering) (row_bound (link m g.0 nodes) kq.error)) (sym h.nodes) (baked_delivers g.0 h.grid same entering)
+      subst (λ nodes. Delivers m kp kq entering (row_pixels (link m (points g) nodes) kp kq entering) (row_bound (link m (points g) nodes) kq.error)) (sym h.nodes) (baked_delivers (points g) h.grid same entering)
+
+  -- and so are those that an accepted link row leaves, after every run
+  pub link_row_delivers : (s : State) (t : List ℕ) → m.ins ≡ kp.channels → None ≡ first_refusal (link_checks m s LinkRow (length t)) → (entering : List P) → (t₀ : List ℕ) (log : Log) → Reached m t₀ log s t →
+      Delivers m kp kq entering (row_pixels (table_link m s t) kp kq entering) (row_bound (table_link m s t) kq.error)
+  link_row_delivers s t same taken entering t₀ log run =
+      let used = accepts (no_use s) (unless (nat_le (link_numbers m s) (length t)) TableLength ∷ []) taken in
+      full_delivers (progress log) s t (run_stands m laws t₀ log s t run) used.0 (ap number same) entering
 
   -- a call that answers with the bound and leaves such pixels, unless it is refused, keeps the law
   delivers_accepted : (was now pixels : List Q) (bound : ℕ) (entering : List P) (o : Option Refusal) (r : Result ℕ Refusal) → r ≡ answered o bound → now ≡ left o was pixels →
@@ -77,7 +80,16 @@ module _ {P Q : Type 0} (m : Meaning) (kp : Kind P) (kq : Kind Q) (laws : Lawful
       (t₀ : List ℕ) (log : Log) → Reached m t₀ log s t → Accepted r (Delivers m kp kq entering now)
   link_row_accepted s t entering was now r answer leaves t₀ log run =
       delivers_accepted was now (row_pixels (table_link m s t) kp kq entering) (row_bound (table_link m s t) kq.error) entering
-      (link_row_refusal m s (length t) kp.channels kq.channels (length entering) (length was)) r answer leaves
+      (link_row_refusal m s (length t) (shape_of kp kq entering was)) r answer leaves
       (λ is.
-      let accepts = link_row_accepts m s (length t) kp.channels kq.channels (length entering) (length was) is in
-      full_delivers (progress log) s t (run_stands m laws t₀ log s t run) accepts.1 accepts.0 entering)
+      let taken = link_row_accepts m s (length t) (shape_of kp kq entering was) is in
+      full_delivers (progress log) s t (run_stands m laws t₀ log s t run) taken.1 taken.0 entering)
+
+  -- the whole promise
+  pub every_run_upholds : EveryRunUpholds m kp kq
+  unfolding EveryRunUpholds
+  every_run_upholds t₀ log s t run = record {
+    link = run_logged m laws t₀ log s t run;
+    rows = λ entering leaving. row_accepted m kp kq laws lp lq entering leaving (row_left m kp kq entering leaving) (row_refusal m (shape_of kp kq entering leaving)) (row_answer m kp kq entering leaving) refl refl;
+    link_rows = λ entering leaving. link_row_accepted s t entering leaving (link_row_left m s t kp kq entering leaving) (link_row_answer m s t kp kq entering leaving) refl refl t₀ log run;
+  }

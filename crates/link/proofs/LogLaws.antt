@@ -5,7 +5,7 @@ use Rattle.meaning.specs.declared.Channels.{Channels}
 use Rattle.meaning.specs.Colours.{number}
 use Rattle.link.specs.declared.refusal.Refusal.{Refusal}
 use Rattle.link.specs.Refusals.{left}
-use Rattle.link.specs.Runs.{Call, begin, fill, row, link_row, quote, write, drop_link, Made, Log, Accepts, Restarts, Goes_on, budget_of, accepted_budget, budgets, Baked}
+use Rattle.link.specs.Runs.{Call, begin, fill, row, link_row, quote, write, drop_link, Logged, Log, WasAccepted, Restarts, GoesOn, budget_of, accepted_budget, budgets, Baked}
 
 -- a grid and the budgets since its begin, with one more budget
 abbrev pub with_budget : ℕ → Option (ℕ × ℕ) → Option (ℕ × ℕ)
@@ -25,7 +25,7 @@ onward drop_link p = None
 -- the grid of the last accepted begin with no drop behind it, and the budgets since
 abbrev pub progress : Log → Option (ℕ × ℕ)
 progress [] = None
-progress (made ∷ log) = left made.refused (progress log) (onward made.call (progress log))
+progress (logged ∷ log) = left logged.refused (progress log) (onward logged.call (progress log))
 
 -- equal progress has equal parts
 pub same_progress : (p q : ℕ × ℕ) → Some p ≡ Some q → (p.0 ≡ q.0) × (p.1 ≡ q.1)
@@ -36,17 +36,17 @@ pub record Since (log : Log) (g total : ℕ) : Type 0 where
   pub since : Log
   pub earlier : Log
   pub begun : log ≡ since ++ (record { call = begin g; refused = None } ∷ earlier)
-  pub goes_on : Goes_on since
+  pub goes_on : GoesOn since
   pub sum : budgets since ≡ total
 
 -- one more call that restarts nothing
-since_more : (made : Made) (log : Log) (g total : ℕ) → (Accepts made → Restarts made.call → ⊥) → Since log g total → Since (made ∷ log) g (accepted_budget made + total)
-since_more made log g total on h = record {
-  since = made ∷ h.since;
+since_more : (logged : Logged) (log : Log) (g total : ℕ) → (WasAccepted logged → Restarts logged.call → ⊥) → Since log g total → Since (logged ∷ log) g (accepted_budget logged + total)
+since_more logged log g total on h = record {
+  since = logged ∷ h.since;
   earlier = h.earlier;
-  begun = ap (λ l. made ∷ l) h.begun;
-  goes_on = All-cons (λ (a : Made). Accepts a → Restarts a.call → ⊥) made h.since on h.goes_on;
-  sum = ap (λ n. accepted_budget made + n) h.sum;
+  begun = ap (λ l. logged ∷ l) h.begun;
+  goes_on = All-cons (λ (a : Logged). WasAccepted a → Restarts a.call → ⊥) logged h.since on h.goes_on;
+  sum = ap (λ n. accepted_budget logged + n) h.sum;
 }
 
 -- one more call with no budget
@@ -71,7 +71,7 @@ since_call c (Some e) log before g total h = since_same c (Some e) log g total (
 since_call (begin k) None log before g total h =
     let parts = same_progress (k, 0) (g, total) h in
     subst₂ (λ x y. Since (record { call = begin k; refused = None } ∷ log) x y) parts.0 parts.1
-    (record { since = []; earlier = log; begun = refl; goes_on = All-nil (λ (a : Made). Accepts a → Restarts a.call → ⊥); sum = refl })
+    (record { since = []; earlier = log; begun = refl; goes_on = All-nil (λ (a : Logged). WasAccepted a → Restarts a.call → ⊥); sum = refl })
 since_call (fill b) None log before g total h = since_filled b log g total (progress log) refl before h
 since_call (row r) None log before g total h = since_same (row r) None log g total (λ _ r. r) refl (before g total h)
 since_call (link_row r) None log before g total h = since_same (link_row r) None log g total (λ _ r. r) refl (before g total h)
@@ -82,7 +82,7 @@ since_call drop_link None log before g total h = absurd (cc)
 -- a log with progress says since when
 pub since_progress : (log : Log) (g total : ℕ) → progress log ≡ Some (g, total) → Since log g total
 since_progress [] g total h = absurd (cc)
-since_progress (made ∷ log) g total h = since_call made.call made.refused log (since_progress log) g total h
+since_progress (logged ∷ log) g total h = since_call logged.call logged.refused log (since_progress log) g total h
 
 -- a call that restarts nothing adds its budget
 onward_on : (c : Call) (o : Option Refusal) (g total : ℕ) → (o ≡ None → Restarts c → ⊥) → left o (Some (g, total)) (onward c (Some (g, total))) ≡ Some (g, left o 0 (budget_of c) + total)
@@ -96,12 +96,12 @@ onward_on (write n) None g total on = ap (λ n. Some (g, n)) (sym (zero-add tota
 onward_on drop_link None g total on = absurd (on refl tt)
 
 -- a log that goes on from an accepted begin has that grid, and the budgets since
-progress_on : (since earlier : Log) (g : ℕ) → Goes_on since → progress (since ++ (record { call = begin g; refused = None } ∷ earlier)) ≡ Some (g, budgets since)
+progress_on : (since earlier : Log) (g : ℕ) → GoesOn since → progress (since ++ (record { call = begin g; refused = None } ∷ earlier)) ≡ Some (g, budgets since)
 progress_on [] earlier g on = refl
-progress_on (made ∷ since) earlier g on =
-    let P : Made → Type 0 = λ a. Accepts a → Restarts a.call → ⊥ in
-    ap (λ p. left made.refused p (onward made.call p)) (progress_on since earlier g (All-tail P made since on))
-    ∙ onward_on made.call made.refused g (budgets since) (All-head P made since on)
+progress_on (logged ∷ since) earlier g on =
+    let P : Logged → Type 0 = λ a. WasAccepted a → Restarts a.call → ⊥ in
+    ap (λ p. left logged.refused p (onward logged.call p)) (progress_on since earlier g (All-tail P logged since on))
+    ∙ onward_on logged.call logged.refused g (budgets since) (All-head P logged since on)
 
 -- a log that bakes a link has progress, which reaches the number of its nodes
 pub baked_progress : (i : Channels) (log : Log) (g : ℕ) → Baked i log g → (total : ℕ) × (progress log ≡ Some (g, total)) × (g ^ number i ≤ total)

@@ -1,6 +1,8 @@
 -- A made pixel is within the stage's error and its own kind's of the exact value, and so a row delivers what it promises. Assumes nothing.
-use Rattle.std.proofs.Common.{◌≡◌, ℕ, ◌+◌, ◌*◌, ◌<◌, ◌≤◌, min, List, get_or, Some, None, Option, Result, ⊎_elim, arith}
-use Rattle.std.proofs.lemmas.List.{length-map, get_or-map}
+use Rattle.std.proofs.Common.{◌≡◌, ℕ, ◌+◌, ◌*◌, ◌<◌, ◌≤◌, min, List, map, slice_get, Some, None, Option, Result, ⊎_elim, sym, ap, ◌∙◌, rules, arith}
+use Rattle.std.specs.Option.{option_map}
+use Rattle.std.proofs.lemmas.Option.{slice_get-map}
+use Rattle.std.proofs.lemmas.List.{length-map}
 use Rattle.std.proofs.lemmas.Bool.{cases_lt}
 use Rattle.meaning.specs.Colours.{grains, full_range, number, at, num, Colour, Exact, Valid, whole}
 use Rattle.meaning.specs.Distances.{gap, Over, Near}
@@ -11,6 +13,14 @@ use Rattle.link.specs.Refusals.{answered, left, Accepted}
 use Rattle.link.specs.Kinds.{Kind, LawfulKind}
 use Rattle.link.specs.Rows.{row_bound, row_pixel, row_pixels, Within, Delivers}
 
+-- a bound in grains, both ways, is one on the distance
+within_both : (bound count k : ℕ) (x : Exact) → Over bound grains count 1 (num x k) x.den → Over bound grains (num x k) x.den count 1 → Within bound count x k
+within_both bound count k x above below = omega (arith, above, below)
+
+-- and the other way round
+both_within : (bound count k : ℕ) (x : Exact) → Within bound count x k → Over bound grains count 1 (num x k) x.den × Over bound grains (num x k) x.den count 1
+both_within bound count k x h = (omega (arith, h), omega (arith, h))
+
 -- counts that differ by a gap of at most e grains
 gap_within : (e a b : ℕ) → gap a b * grains ≤ e → Over e grains a 1 b 1 × Over e grains b 1 a 1
 gap_within e a b h = (omega arith, omega arith)
@@ -18,12 +28,13 @@ gap_within e a b h = (omega arith, omega arith)
 -- a count within e grains of one that is within n grains of x is within both of x
 within_add : (n e s a k : ℕ) (x : Exact) → 0 < x.den → gap s a * grains ≤ e → Within n a x k → Within (n + e) s x k
 within_add n e s a k x pos h w =
-    let g = gap_within e s a h in (
-      over_more (e * grains + n * grains) (grains * grains) (n + e) grains s 1 (num x k) x.den (omega arith) (omega arith)
-          (over_add e grains n grains s 1 a 1 (num x k) x.den (omega arith) g.0 w.0),
-      over_more (n * grains + e * grains) (grains * grains) (n + e) grains (num x k) x.den s 1 (omega arith) (omega arith)
-          (over_add n grains e grains (num x k) x.den a 1 s 1 (omega arith) w.1 g.1),
-    )
+    let g = gap_within e s a h in
+    let near = both_within n a k x w in
+    within_both (n + e) s k x
+    (over_more (e * grains + n * grains) (grains * grains) (n + e) grains s 1 (num x k) x.den (omega arith) (omega arith)
+    (over_add e grains n grains s 1 a 1 (num x k) x.den (omega arith) g.0 near.0))
+    (over_more (n * grains + e * grains) (grains * grains) (n + e) grains (num x k) x.den s 1 (omega arith) (omega arith)
+    (over_add n grains e grains (num x k) x.den a 1 s 1 (omega arith) near.1 g.1))
 
 -- a pixel made from a colour within n grains of x shows counts within n and the kind's error of x, held to the full range
 pub made_within : {Q : Type 0} (kq : Kind Q) → LawfulKind kq → (n : ℕ) (a : List ℕ) (x : Exact) → Colour a → Valid x → Near n grains (whole a) x → (k : ℕ) → k < number kq.channels → Within (min full_range (n + kq.error)) (at (kq.shown (kq.made a)) k) x k
@@ -33,21 +44,29 @@ made_within kq laws n a x colour valid near k h =
     (λ (l : full_range < n + kq.error).
     let far = near_range (whole s) x (valid_whole s (laws.shows (kq.made a))) valid in
     let is : min full_range (n + kq.error) ≡ full_range = omega arith in
-    rw is (far.above k, far.below k))
+    rw is (within_both full_range (at s k) k x (far.above k) (far.below k)))
     (λ (l : n + kq.error ≤ full_range).
     let is : min full_range (n + kq.error) ≡ n + kq.error = omega arith in
-    rw is (within_add n kq.error (at s k) (at a k) k x valid.positive (laws.close a colour k h) (near.above k, near.below k)))
+    rw is (within_add n kq.error (at s k) (at a k) k x valid.positive (laws.close a colour k h) (within_both n (at a k) k x (near.above k) (near.below k))))
     (cases_lt full_range (n + kq.error))
+
+same_some : {A : Type 0} {a b : A} → Some a ≡ Some b → a ≡ b
+same_some h = search rules
+
+-- the pixel that leaves in a place is made from the one that enters there
+pub leaving_pixel : {P Q : Type 0} (f : P → Q) (entering : List P) (place : ℕ) (p : P) (q : Q) → slice_get entering place ≡ Some p → slice_get (map f entering) place ≡ Some q → q ≡ f p
+leaving_pixel f entering place p q enters leaves =
+    same_some (sym leaves ∙ slice_get-map f entering place ∙ ap (option_map f) enters)
 
 module _ {P Q : Type 0} (m : Meaning) (kp : Kind P) (kq : Kind Q) (laws : Lawful m) (lp : LawfulKind kp) (lq : LawfulKind kq) (entering : List P) where
   -- the pixels of a row keep its bound
   pub row_delivers : Delivers m kp kq entering (row_pixels m kp kq entering) (row_bound m kq.error)
   row_delivers = record {
     as_long = length-map entering (row_pixel m kp kq);
-    within = λ i h p q k l.
-        let c = kp.shown (get_or entering i p) in
-        let shown = lp.shows (get_or entering i p) in
-        rw (get_or-map (row_pixel m kp kq) entering i p q h)
+    within = λ place p q enters leaves k l.
+        let c = kp.shown p in
+        let shown = lp.shows p in
+        rw (leaving_pixel (row_pixel m kp kq) entering place p q enters leaves)
         (made_within kq lq m.error (m.answer c) (m.exact (whole c)) (laws.answers c shown) (laws.stays (whole c) (valid_whole c shown)) (laws.close c shown) k l);
   }
 

@@ -7,5 +7,6 @@ pub mod Walks
 pub mod Written
 pub mod States
 pub mod Calls
+pub mod Converters
 pub mod Runs
 pub mod ReadBack

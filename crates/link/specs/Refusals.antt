@@ -1,4 +1,4 @@
--- Refusals: their numbers and sentences, the order of checks, and what a call that may refuse answers and leaves.
+-- Refusals: their numbers and sentences, the order of checks, and what a call that may be refused answers and leaves.
 use Rattle.std.specs.Prelude.{ℕ, Bool, cond, List, [], ◌∷◌, Some, None, Ok, Err, Option, Result, codes}
 use Rattle.link.specs.declared.refusal.Refusal.{Refusal}
 use Rattle.link.specs.declared.refusal.Refusal.TheVariants.{RowLengths, PixelChannels, GridPoints, TableLength, NoLink, FullLink, FillingLink, OutputLength}
@@ -25,17 +25,22 @@ sentence_of FullLink = codes "the link is full already"
 sentence_of FillingLink = codes "the link is still filling"
 sentence_of OutputLength = codes "the output is shorter than the written link"
 
--- a test, and the refusal where it fails; the first that fails refuses the call
-abbrev pub refusal : List (Bool × Refusal) → Option Refusal
-refusal [] = None
-refusal (check ∷ checks) = cond check.0 (refusal checks) (Some check.1)
+-- a refusal, unless a test holds
+abbrev pub unless : Bool → Refusal → Option Refusal
+unless holds e = cond holds None (Some e)
+
+-- the first refusal of several checks, if there is one
+abbrev pub first_refusal : List (Option Refusal) → Option Refusal
+first_refusal [] = None
+first_refusal (None ∷ later) = first_refusal later
+first_refusal (Some e ∷ later) = Some e
 
 -- what a call answers: its value, or why it was refused
 abbrev pub answered : {A : Type 0} → Option Refusal → A → Result A Refusal
 answered None a = Ok a
 answered (Some e) a = Err e
 
--- why a call was refused, as its answer tells
+-- why a call was refused, by its answer
 abbrev pub refused : {A : Type 0} → Result A Refusal → Option Refusal
 refused (Ok a) = None
 refused (Err e) = Some e

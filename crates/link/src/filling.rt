@@ -3,15 +3,16 @@ ghost use Rattle.std.specs.Prelude.{◌≡◌, ◌+◌, ◌-◌, ◌*◌, ◌/�
 ghost use Rattle.link.specs.Walks.{StandsAt};
 ghost use Rattle.meaning.specs.Colours.{max_count, number};
 ghost use Rattle.meaning.specs.Links.{grid_count, node_colour, nodes_from};
+ghost use Rattle.stage.specs.Lattices.{points};
 
 use meaning::{Channels, MAX_COUNT};
 use stage::{Colour, Grid, Stage};
 
 // The count that a grid point stands for, rounded and not cut.
 fn grid_count(grid: Grid, point: u8) -> u16
-    requires some { 2 ≤ grid.0 }
-    requires within { point ≤ grid.0 - 1 }
-    ensures { result ≡ grid_count grid.0 point }
+    requires some { 2 ≤ points grid }
+    requires within { point ≤ points grid - 1 }
+    ensures { result ≡ grid_count (points grid) point }
 {
     let steps = u32::from(grid.points()) - 1;
     ((2 * u32::from(point) * u32::from(MAX_COUNT) + steps) / (2 * steps)) as u16
@@ -19,10 +20,10 @@ fn grid_count(grid: Grid, point: u8) -> u16
 
 // The grid point of a node along the channel that has so many channels behind it.
 fn node_point(grid: Grid, node: usize, behind: u32) -> u8
-    requires some { 2 ≤ grid.0 }
+    requires some { 2 ≤ points grid }
     requires few { behind ≤ 3 }
-    ensures value { result ≡ node / grid.0 ^ behind % grid.0 }
-    ensures within { result ≤ grid.0 - 1 }
+    ensures value { result ≡ node / points grid ^ behind % points grid }
+    ensures within { result ≤ points grid - 1 }
 {
     let points = usize::from(grid.points());
     (node / points.pow(behind) % points) as u8
@@ -30,12 +31,12 @@ fn node_point(grid: Grid, node: usize, behind: u32) -> u8
 
 // The colour that a node stands for.
 fn node_colour(ins: Channels, grid: Grid, node: usize) -> Colour
-    requires { 2 ≤ grid.0 }
-    ensures { result ≡ node_colour ins grid.0 node }
+    requires { 2 ≤ points grid }
+    ensures { result ≡ node_colour ins (points grid) node }
 {
     let count = |behind: u32| -> u16
-        requires { (2 ≤ grid.0) × (behind ≤ 3) }
-        ensures { result ≡ grid_count grid.0 (node / grid.0 ^ behind % grid.0) }
+        requires { (2 ≤ points grid) × (behind ≤ 3) }
+        ensures { result ≡ grid_count (points grid) (node / points grid ^ behind % points grid) }
     { grid_count(grid, node_point(grid, node, behind)) };
     match ins {
         Channels::One => [count(0), 0, 0, 0],
@@ -46,19 +47,19 @@ fn node_colour(ins: Channels, grid: Grid, node: usize) -> Colour
 
 // The whole counts from one grid point to the next: the next count lies so many higher, or one more by rounding.
 fn whole_counts(grid: Grid) -> u16
-    requires { 2 ≤ grid.0 }
-    ensures { result ≡ max_count / (grid.0 - 1) }
+    requires { 2 ≤ points grid }
+    ensures { result ≡ max_count / (points grid - 1) }
 {
     MAX_COUNT / u16::from(grid.points() - 1)
 }
 
 // The count that the next grid point stands for, from that of the point before it, without a division.
 fn next_count(grid: Grid, point: u8, count: u16, whole: u16) -> u16
-    requires some { 2 ≤ grid.0 }
-    requires within { point + 1 ≤ grid.0 - 1 }
-    requires here { count ≡ grid_count grid.0 point }
-    requires whole { whole ≡ max_count / (grid.0 - 1) }
-    ensures { result ≡ grid_count grid.0 (point + 1) }
+    requires some { 2 ≤ points grid }
+    requires within { point + 1 ≤ points grid - 1 }
+    requires here { count ≡ grid_count (points grid) point }
+    requires whole { whole ≡ max_count / (points grid - 1) }
+    ensures { result ≡ grid_count (points grid) (point + 1) }
 {
     let steps = u32::from(grid.points()) - 1;
     let low = u32::from(count) + u32::from(whole);
@@ -83,8 +84,8 @@ struct Walk {
 impl Walk {
     // A walk that stands at a node.
     fn at(ins: Channels, grid: Grid, node: usize) -> Walk
-        requires { 2 ≤ grid.0 }
-        ensures { StandsAt ins grid.0 node result }
+        requires { 2 ≤ points grid }
+        ensures { StandsAt ins (points grid) node result }
     {
         Walk {
             grid,
@@ -97,8 +98,8 @@ impl Walk {
     // On to the next node: along a line of nodes only the last channel's count changes.
     fn step(&mut self, ins: Channels, node: usize)
         requires limit { node + 1 < 2 ^ 64 }
-        requires here { StandsAt ins self.old.grid.0 node self.old }
-        ensures { StandsAt ins self.old.grid.0 (node + 1) self.new }
+        requires here { StandsAt ins (points self.old.grid) node self.old }
+        ensures { StandsAt ins (points self.old.grid) (node + 1) self.new }
     {
         if self.point + 1 == self.grid.points() {
             *self = Walk::at(ins, self.grid, node + 1);
@@ -119,10 +120,10 @@ fn answer_at<S: Stage>(stage: &S, walk: &Walk) -> Colour
 
 // The stage's answers at the nodes from `first` on, stored in the part of a table that holds just these nodes.
 pub(crate) fn store<S: Stage>(stage: &S, grid: Grid, first: usize, count: usize, part: &mut [u16])
-    requires some { 2 ≤ grid.0 }
+    requires some { 2 ≤ points grid }
     requires limit { first + count < 2 ^ 64 }
     requires whole { length part.old ≡ count * number (S.Stage.meaning stage.now).outs }
-    ensures { part.new ≡ nodes_from (S.Stage.meaning stage.now) grid.0 first count }
+    ensures { part.new ≡ nodes_from (S.Stage.meaning stage.now) (points grid) first count }
 {
     let outs = stage.outs().number();
     let mut walk = Walk::at(stage.ins(), grid, first);

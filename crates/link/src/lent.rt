@@ -2,6 +2,7 @@
 ghost use Rattle.std.specs.Prelude.{◌≡◌};
 ghost use Rattle.meaning.proofs.LatticeLaws.{lattices_lawful};
 ghost use Rattle.meaning.specs.Lattices.{lattice};
+ghost use Rattle.stage.specs.Lattices.{points};
 
 use crate::pixel::Pixel;
 use meaning::Channels;
@@ -53,7 +54,9 @@ impl<'t> LentLink<'t> {
 impl<'t, P: Pixel, Q: Pixel> RowLattice<'t, P, Q> {
     // The lattice over the nodes.
     fn lattice(&self) -> Lattice<RowNodes<'t, P, Q>>
-        ensures { ⟦<Lattice<RowNodes<'static, P, Q>> as Stage>⟧.meaning result ≡ lattice P.Pixel.kind.channels Q.Pixel.kind.channels self.now.link.grid.0 self.now.link.nodes.now }
+        ensures { let grid = points self.now.link.grid in
+            ⟦<Lattice<RowNodes<'static, P, Q>> as Stage>⟧.meaning result
+            ≡ lattice P.Pixel.kind.channels Q.Pixel.kind.channels grid self.now.link.nodes.now }
     {
         let nodes = RowNodes {
             table: Table(self.link.nodes),
@@ -64,9 +67,12 @@ impl<'t, P: Pixel, Q: Pixel> RowLattice<'t, P, Q> {
 }
 
 impl<P: Pixel, Q: Pixel> Stage for RowLattice<'_, P, Q> {
-    ghost meaning = { λ s. lattice P.Pixel.kind.channels Q.Pixel.kind.channels s.link.grid.0 s.link.nodes.now };
+    ghost meaning = { λ s.
+        lattice P.Pixel.kind.channels Q.Pixel.kind.channels (points s.link.grid) s.link.nodes.now };
 
-    ghost lawful = { λ s. lattices_lawful P.Pixel.kind.channels Q.Pixel.kind.channels s.link.grid.0 s.link.nodes.now };
+    ghost lawful = { λ s.
+        lattices_lawful P.Pixel.kind.channels Q.Pixel.kind.channels (points s.link.grid)
+        s.link.nodes.now };
 
     fn ins(&self) -> Channels {
         P::channels()

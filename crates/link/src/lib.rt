@@ -1,16 +1,16 @@
-// Pixels through a stage: the pixel kinds, the call that sends a row of pixels through a stage, and the converter, which bakes a
-// stage into one lattice between rows and sends them through that.
+// Pixels through a stage: the pixel kinds, and the converter, which sends rows of pixels through a stage, bakes the stage into
+// one lattice between rows, and sends rows through that.
 #![tactic(auto)]
 
 pub mod answers;
-mod calls;
 pub mod converter;
 mod filling;
 mod lent;
+mod parts;
 pub mod pixel;
 mod read_back;
 pub mod refusal;
-pub mod rows;
+mod rows;
 pub mod state;
 mod writing;
 
@@ -18,5 +18,4 @@ pub use answers::{Filled, Quote};
 pub use converter::Converter;
 pub use pixel::{Cmyk, Cmyk8, Gray, Gray8, Pixel, Rgb, Rgb8, Rgb16};
 pub use refusal::Refusal;
-pub use rows::row;
 pub use state::State;

@@ -64,12 +64,12 @@ pub type Cmyk8 = Cmyk<u8>;
 
 pub type Rgb16 = Rgb<u16>;
 
-// These four names stand for the kinds that the definitions give.
+// These four names, as the crate offers them, stand for the kinds that the definitions give.
 pub fn named_kinds()
-    ensures gray8 { ⟦<Gray8 as Pixel>⟧.kind ≡ gray8 }
-    ensures rgb8 { ⟦<Rgb8 as Pixel>⟧.kind ≡ rgb8 }
-    ensures cmyk8 { ⟦<Cmyk8 as Pixel>⟧.kind ≡ cmyk8 }
-    ensures rgb16 { ⟦<Rgb16 as Pixel>⟧.kind ≡ rgb16 }
+    ensures gray8 { ⟦<crate::Gray8 as Pixel>⟧.kind ≡ gray8 }
+    ensures rgb8 { ⟦<crate::Rgb8 as Pixel>⟧.kind ≡ rgb8 }
+    ensures cmyk8 { ⟦<crate::Cmyk8 as Pixel>⟧.kind ≡ cmyk8 }
+    ensures rgb16 { ⟦<crate::Rgb16 as Pixel>⟧.kind ≡ rgb16 }
 {}
 
 impl<S: Sample> Pixel for Gray<S> {

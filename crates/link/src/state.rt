@@ -1,8 +1,10 @@
-// Where the link of a converter stands, and what each call makes of that.
+// Where the link of a converter stands, and what each event comes to in each state.
 ghost use Rattle.std.specs.Prelude.{◌≡◌, ◌+◌, ◌-◌, ◌^◌, ◌≤◌};
 ghost use Rattle.meaning.specs.Colours.{number};
-ghost use Rattle.link.specs.States.{after, grid_points, link_grid, missing_nodes};
+ghost use Rattle.link.specs.States.{decided, filled, filled_state, grid_points, link_grid};
+ghost use Rattle.link.specs.declared.state.State.TheVariants.{Filling};
 
+use crate::answers::Filled;
 use crate::refusal::Refusal;
 use meaning::Channels;
 use stage::{Grid, lattice_nodes};
@@ -18,14 +20,82 @@ pub enum State {
     Full { grid: Grid },
 }
 
-// The calls that lead on from a state, or that a state refuses. A drop leads from every state to the empty one, and a row and a
-// quote leave every state as it is, so these three have nothing to match.
+// What happens to a converter: one event for each of the seven calls.
 #[derive(Clone, Copy)]
 pub(crate) enum Event {
     Begin { grid: Grid },
     Fill { budget: usize },
+    Row,
     LinkRow,
+    Quote,
     Write,
+    Drop,
+}
+
+// The nodes that a fill stores: from the first on, in a link with that grid.
+#[derive(Clone, Copy)]
+pub(crate) struct Stores {
+    pub grid: Grid,
+    pub first: usize,
+    pub filled: Filled,
+}
+
+// What an event comes to in a state that does not refuse it.
+#[derive(Clone, Copy)]
+pub(crate) struct Outcome {
+    // The state that follows.
+    pub state: State,
+    // The grid of its link, if there is one.
+    pub link: Option<Grid>,
+    // What a fill stores; other calls store nothing.
+    pub stores: Option<Stores>,
+}
+
+impl Outcome {
+    // Nothing is stored.
+    fn of(state: State) -> Outcome
+        ensures { result ≡ record { state = state; link = link_grid state; stores = None } }
+    {
+        Outcome {
+            state,
+            link: state.grid(),
+            stores: None,
+        }
+    }
+
+    // Some nodes are stored in a link that was filling.
+    fn filled(ins: Channels, grid: Grid, next: usize, budget: usize) -> Outcome
+        ensures { let link = Filling grid next in
+            result ≡ record {
+              state = filled_state ins link budget;
+              link = Some grid;
+              stores = Some (record { grid = grid; first = next; filled = filled ins link budget });
+            } }
+    {
+        let missing = lattice_nodes(ins, grid.points()).saturating_sub(next);
+        let stored = budget.min(missing);
+        let state = if budget < missing {
+            State::Filling {
+                grid,
+                next: next + stored,
+            }
+        } else {
+            State::Full { grid }
+        };
+        let filled = Filled {
+            stored,
+            missing: missing - stored,
+        };
+        Outcome {
+            state,
+            link: Some(grid),
+            stores: Some(Stores {
+                grid,
+                first: next,
+                filled,
+            }),
+        }
+    }
 }
 
 impl State {
@@ -39,46 +109,23 @@ impl State {
         }
     }
 
-    // Its grid points, and 0 where there is none.
-    pub(crate) fn points(self) -> u8
-        ensures { result ≡ grid_points self }
-    {
-        match self {
-            State::Empty => 0,
-            State::Filling { grid, .. } | State::Full { grid } => grid.points(),
-        }
-    }
-
-    // How many nodes of the link are still missing, over so many in-channels.
-    pub(crate) fn missing(self, ins: Channels) -> usize
-        ensures { result ≡ missing_nodes ins self }
-    {
-        match self {
-            State::Empty | State::Full { .. } => 0,
-            State::Filling { grid, next } => lattice_nodes(ins, grid.points()).saturating_sub(next),
-        }
-    }
-
-    // The state that an event leads to, or why this state refuses it.
-    pub(crate) fn after(self, ins: Channels, event: Event) -> Result<State, Refusal>
-        ensures { result ≡ after ins self event }
+    // What an event comes to in this state, or why it is refused.
+    pub(crate) fn decide(self, ins: Channels, event: Event) -> Result<Outcome, Refusal>
+        ensures { result ≡ decided ins self event }
     {
         match (self, event) {
-            (_, Event::Begin { grid }) => Ok(State::Filling { grid, next: 0 }),
+            (_, Event::Begin { grid }) => Ok(Outcome::of(State::Filling { grid, next: 0 })),
+            (_, Event::Drop) => Ok(Outcome::of(State::Empty)),
+            (_, Event::Row | Event::Quote) | (State::Full { .. }, Event::LinkRow | Event::Write) =>
+                Ok(Outcome::of(self)),
+            (State::Filling { grid, next }, Event::Fill { budget }) => {
+                Ok(Outcome::filled(ins, grid, next, budget))
+            }
             (State::Empty, Event::Fill { .. } | Event::LinkRow | Event::Write) => {
                 Err(Refusal::NoLink)
             }
             (State::Full { .. }, Event::Fill { .. }) => Err(Refusal::FullLink),
             (State::Filling { .. }, Event::LinkRow | Event::Write) => Err(Refusal::FillingLink),
-            (State::Full { .. }, Event::LinkRow | Event::Write) => Ok(self),
-            (State::Filling { grid, next }, Event::Fill { budget }) => {
-                let next = next.saturating_add(budget);
-                if next < lattice_nodes(ins, grid.points()) {
-                    Ok(State::Filling { grid, next })
-                } else {
-                    Ok(State::Full { grid })
-                }
-            }
         }
     }
 }

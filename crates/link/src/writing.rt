@@ -66,7 +66,7 @@ fn put_nodes(output: &mut [u8], at: usize, nodes: &[u16])
     }
 }
 
-// Writes the element of a link over the first bytes of the output; those behind it stay.
+// Writes the element of a link over the first bytes of the output; the bytes after it stay.
 #[tactic(auto, using(crate::proofs::WritingLaws::element_steps))]
 pub(crate) fn write_element(
     ins: Channels,
@@ -76,7 +76,8 @@ pub(crate) fn write_element(
     output: &mut [u8],
 )
     requires { written_length ins outs (length nodes.now) ≤ length output.old }
-    ensures { output.new ≡ written ins outs grid nodes.now ++ drop (written_length ins outs (length nodes.now)) output.old }
+    ensures { let long = written_length ins outs (length nodes.now) in
+        output.new ≡ written ins outs grid nodes.now ++ drop long output.old }
 {
     let input_start = 52;
     let nodes_start = input_start + 4 * ins.number();

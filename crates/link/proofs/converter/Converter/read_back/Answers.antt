@@ -20,7 +20,7 @@ returns-clause-answer g c =
     let written = take long c.write.new.output in
     let back = back_answers m.ins m.outs (grid_points s.state) nodes written c.in_ok-length.ensures.back colour is_colour in
     let answer = (lattice m.ins m.outs (grid_points s.state) nodes).answer colour in
-    let read : c.answer_of_written.result ≡ Some answer = rw (c.answer_of_written.ensures, c.ins-ins.ensures, c.outs-outs.ensures) back in
+    let read : c.answer_of.result ≡ Some answer = rw c.answer_of.ensures back in
     let is : c.unwrap.result ≡ answer = inner (sym c.unwrap.ensures ∙ read) in
     ap Ok is ∙ answers_too (write_refusal m s.state (length table) (length c.args.output.now)) (link_length m s.state) long answer (sym c.in_ok-length.was ∙ c.write.ensures.answer)
   where

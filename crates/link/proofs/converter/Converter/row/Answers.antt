@@ -1,32 +1,37 @@
--- The row keeps its bound, and the run goes on.
-use Rattle.std.proofs.Common.{length}
-use Rattle.link.specs.Refusals.{refused}
-use Rattle.link.specs.Rows.{row_refusal}
-use Rattle.link.specs.Runs.{After_runs, row, row_of}
-use Rattle.link.proofs.RefusalLaws.{refused_answered, left_same}
-use Rattle.link.proofs.RowLaws.{row_accepted}
-use Rattle.link.proofs.RunLaws.{continues, run_kept}
+-- The row keeps its bound, after every run too, and the run goes on.
+use Rattle.std.proofs.Common.{None, Some, refl, sym, ◌∙◌}
+use Rattle.link.specs.Rows.{shape_of}
+use Rattle.link.specs.Runs.{row}
+use Rattle.link.proofs.RowLaws.{row_delivers}
+use Rattle.link.proofs.RunLaws.{after_runs, same_on}
 use Rattle.link.proofs.converter.Converter.row.Goals as goal
+
+pub returns-in-Some-clause-law : goal.returns-in-Some-clause-law
+returns-in-Some-clause-law g c = λ table.
+    let s = c.args.self.now in
+    after_runs (g.S.Stage.meaning s.stage) (g.S.Stage.lawful s.stage) s.state table _ (λ _ _ _. tt)
+
+pub returns-in-Some-clause-run : goal.returns-in-Some-clause-run
+returns-in-Some-clause-run g c = λ table.
+    let s = c.args.self.now in
+    let shape = shape_of g.P.Pixel.kind g.Q.Pixel.kind c.args.entering.now c.args.leaving.now in
+    same_on (g.S.Stage.meaning s.stage) (g.S.Stage.lawful s.stage) (row shape) s.state table (Some c.in-Some.refusal)
+    (sym c.in-Some.is ∙ c.pixels_refused.ensures.answer) refl refl
 
 pub returns-clause-within : goal.returns-clause-within
 returns-clause-within g c =
     let m = g.S.Stage.meaning c.args.self.now.stage in
-    let kp = g.P.Pixel.kind in
-    let kq = g.Q.Pixel.kind in
-    let entering = c.args.entering.now in
-    let was = c.args.leaving.now in
-    row_accepted m kp kq (g.S.Stage.lawful c.args.self.now.stage) g.P.Pixel.lawful g.Q.Pixel.lawful entering was c.send.new.leaving
-    (row_refusal m kp.channels kq.channels (length entering) (length was)) c.send.result c.send.ensures.answer c.send.ensures.leaving
+    rw (c.deliver_directly.ensures.leaving, c.deliver_directly.ensures.bound)
+    (row_delivers m g.P.Pixel.kind g.Q.Pixel.kind (g.S.Stage.lawful c.args.self.now.stage) g.P.Pixel.lawful g.Q.Pixel.lawful c.args.entering.now)
 
 pub returns-clause-law : goal.returns-clause-law
-unfolding After_runs
-returns-clause-law g c = λ table t₀ log r.
+returns-clause-law g c = λ table.
     let s = c.args.self.now in
-    (run_kept (g.S.Stage.meaning s.stage) (g.S.Stage.lawful s.stage) t₀ log s.state table r, returns-clause-within g c)
+    after_runs (g.S.Stage.meaning s.stage) (g.S.Stage.lawful s.stage) s.state table _ (λ _ _ _. returns-clause-within g c)
 
 pub returns-clause-run : goal.returns-clause-run
 returns-clause-run g c = λ table.
     let s = c.args.self.now in
-    let m = g.S.Stage.meaning s.stage in
-    continues m (g.S.Stage.lawful s.stage) (record { call = row (row_of g.P.Pixel.kind g.Q.Pixel.kind c.args.entering.now c.args.leaving.now); refused = refused c.send.result }) s.state table s.state table
-    (record { refused = refused_answered _ _ c.send.result c.send.ensures.answer; state = left_same (refused c.send.result) s.state; table = left_same (refused c.send.result) table })
+    let shape = shape_of g.P.Pixel.kind g.Q.Pixel.kind c.args.entering.now c.args.leaving.now in
+    same_on (g.S.Stage.meaning s.stage) (g.S.Stage.lawful s.stage) (row shape) s.state table None
+    (sym c.in_default.is ∙ c.pixels_refused.ensures.answer) refl refl

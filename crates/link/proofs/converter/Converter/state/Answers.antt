@@ -1,6 +1,11 @@
--- After every run the promise is kept.
-use Rattle.link.proofs.RunLaws.{run_kept}
+-- After every run the link is as its log says.
+use Rattle.std.proofs.Common.{sym, subst}
+use Rattle.link.specs.Runs.{LinkAsLogged}
+use Rattle.link.proofs.RunLaws.{run_logged}
 use Rattle.link.proofs.converter.Converter.state.Goals as goal
 
 pub returns-clause-law : goal.returns-clause-law
-returns-clause-law g c = λ t₀ table log r. rw c.pinned_state.ensures (run_kept (g.S.Stage.meaning c.args.self.now.stage) (g.S.Stage.lawful c.args.self.now.stage) t₀ log c.args.self.now.state table r)
+returns-clause-law g c = λ t₀ table log r.
+    let s = c.args.self.now in
+    let m = g.S.Stage.meaning s.stage in
+    subst (λ seen. LinkAsLogged m log seen.state table) (sym c.self.view_is) (run_logged m (g.S.Stage.lawful s.stage) t₀ log s.state table r)
