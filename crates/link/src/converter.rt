@@ -49,10 +49,7 @@ impl<S: Stage> Converter<S> {
         ensures state { result.state ≡ Empty }
         ensures starts { Starts (S.Stage.meaning stage) result.state }
     {
-        Converter {
-            stage: Rated::new(stage),
-            state: State::Empty,
-        }
+        Converter::over(Rated::new(stage))
     }
 
     // The stage, with its figures.
@@ -68,7 +65,7 @@ impl<S: Stage> Converter<S> {
         ensures answer { result ≡ self.now.state }
         ensures law { let m = S.Stage.meaning self.now.stage in
             (t₀ table : List ℕ) (log : Log) → Reached m t₀ log self.now.state table →
-            LinkAsLogged m log result table }
+            LinkAsLogged m log self.now.state table }
     {
         let Converter { state, .. } = self;
         *state

@@ -23,7 +23,7 @@ use crate::rows::deliver;
 use crate::state::{Event, State, Stores};
 use crate::writing::{write_element, written_length};
 use meaning::link_error;
-use stage::{Grid, Stage, lattice_entries};
+use stage::{Grid, Rated, Stage, lattice_entries};
 
 // The grid of a link: 2 to 33 points.
 pub(crate) fn grid_of_link(wanted: u32) -> Option<Grid>
@@ -37,6 +37,16 @@ pub(crate) fn grid_of_link(wanted: u32) -> Option<Grid>
 }
 
 impl<S: Stage> Converter<S> {
+    // A converter with no link.
+    pub(crate) fn over(stage: Rated<S>) -> Converter<S>
+        ensures { result ≡ record { stage = stage; state = Empty } }
+    {
+        Converter {
+            stage,
+            state: State::Empty,
+        }
+    }
+
     // Why a row is refused, if it is: the channels are tested first, then the lengths.
     pub(crate) fn pixels_refused<P: Pixel, Q: Pixel>(
         &self,

@@ -1,11 +1,8 @@
 -- After every run the link is as its log says.
-use Rattle.std.proofs.Common.{sym, subst}
-use Rattle.link.specs.Runs.{LinkAsLogged}
 use Rattle.link.proofs.RunLaws.{run_logged}
 use Rattle.link.proofs.converter.Converter.state.Goals as goal
 
 pub returns-clause-law : goal.returns-clause-law
 returns-clause-law g c = λ t₀ table log r.
     let s = c.args.self.now in
-    let m = g.S.Stage.meaning s.stage in
-    subst (λ seen. LinkAsLogged m log seen.state table) (sym c.self.view_is) (run_logged m (g.S.Stage.lawful s.stage) t₀ log s.state table r)
+    run_logged (g.S.Stage.meaning s.stage) (g.S.Stage.lawful s.stage) t₀ log s.state table r
