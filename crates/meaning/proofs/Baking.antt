@@ -46,7 +46,7 @@ nodes_split m g first (suc a) b =
     let more : suc a + b ≡ suc (a + b) = omega arith in
     rw (here, more, nodes_split m g (suc first) a b) (sym (append_assoc (node_answer m g first) (nodes_from m g (suc first) a) (nodes_from m g (suc first + a) b)))
 
--- the same with one node behind
+-- the same with one node more
 pub nodes_next : (m : Meaning) (g first n : ℕ) → nodes_from m g first (suc n) ≡ nodes_from m g first n ++ node_answer m g (first + n)
 unfolding nodes_from
 nodes_next m g first n =

@@ -12,19 +12,19 @@ use Rattle.meaning.specs.Lattices.{numbered}
 use Rattle.meaning.specs.Links.{node_index, NodesAreNumbered}
 use Rattle.meaning.proofs.LatticeLaws.{numbered_split, numbered_limit}
 
--- the index j of a number is the j-th of the n indices that it was counted from, behind any others
+-- the index j of a number is the j-th of the n indices that it was counted from, after any others
 pub index_from : (g : ℕ) (x : ℕ → ℕ) → ((k : ℕ) → x k < g) → (a k n j : ℕ) → j < n → node_index n g (numbered g a (map x (range_with_len k n))) j ≡ x (k + j)
 index_from g x h a k zero j l = absurd (omega arith)
 index_from g x h a k (suc n) zero l =
-    let behind : suc n - (0 + 1) ≡ n = omega arith in
+    let after : suc n - (0 + 1) ≡ n = omega arith in
     let here : k + 0 ≡ k = omega arith in
     let low = numbered_limit g x h (k + 1) n in
-    rw (behind, here, numbered_split g x (a * g + x k) (k + 1) n, div-mul-add (a * g + x k) (g ^ n) (numbered g 0 (map x (range_with_len (k + 1) n))) low)
+    rw (after, here, numbered_split g x (a * g + x k) (k + 1) n, div-mul-add (a * g + x k) (g ^ n) (numbered g 0 (map x (range_with_len (k + 1) n))) low)
     (mod-mul-add a g (x k) (h k))
 index_from g x h a k (suc n) (suc j) l =
-    let behind : suc n - (suc j + 1) ≡ n - (j + 1) = omega arith in
+    let after : suc n - (suc j + 1) ≡ n - (j + 1) = omega arith in
     let here : k + suc j ≡ k + 1 + j = omega arith in
-    rw (behind, here) (index_from g x h (a * g + x k) (k + 1) n j (omega arith))
+    rw (after, here) (index_from g x h (a * g + x k) (k + 1) n j (omega arith))
 
 -- powers of a number of grid points
 pow_positive : (g r : ℕ) → 0 < g → 0 < g ^ r
@@ -35,10 +35,10 @@ pow_positive g (suc r) pos = rw (pow-suc g r) (mul-pos (pow_positive g r pos) po
 counted_from : (g i n : ℕ) → 0 < g → (a k r : ℕ) → k + r ≡ i → numbered g a (map (node_index i g n) (range_with_len k r)) ≡ a * g ^ r + n % g ^ r
 counted_from g i n pos a k zero e = rw (pow-zero g, mod-one n) (omega arith)
 counted_from g i n pos a k (suc r) e =
-    let behind : i - (k + 1) ≡ r = omega arith in
+    let after : i - (k + 1) ≡ r = omega arith in
     let rest = counted_from g i n pos (a * g + node_index i g n k) (k + 1) r (omega arith) in
     let low = mod-mul n pos (pow_positive g r pos) in
-    rw (pow-succ' g r, low, ap (λ e. n / g ^ e % g) (sym behind)) (omega (arith, rest))
+    rw (pow-succ' g r, low, ap (λ e. n / g ^ e % g) (sym after)) (omega (arith, rest))
 
 -- without grid points there are no nodes
 no_nodes : (i : Channels) → 0 ^ number i ≡ 0

@@ -24,7 +24,7 @@ module _ {F : Type 0} (g : Mut F (ℕ × Unit {0}) ℕ) (f : F) (ys : List ℕ) 
   pub filled : (n : ℕ) → IsFromFnResult g f ys n → ys ≡ map h (range_with_len 0 n)
   filled n made = fill_by_all h ys n 0 made.long (λ k l. each_place n 0 made.each k (omega arith) (omega arith))
 
--- the same where the closure tells the first n channels and gives 0 in the others
+-- the same where the closure gives the first n channels, and 0 in the others
 pub spread_filled : {F : Type 0} (g : Mut F (ℕ × Unit {0}) ℕ) (c : F) (ys : List ℕ) (round f : ℕ → ℕ) (n : ℕ) → round 0 ≡ 0 → ((k r : ℕ) (q : F) → Called g c (k, tt) r q → (q ≡ c) × (r ≡ cond (ltb k n) (round (f k)) 0)) → IsFromFnResult g c ys channels → ys ≡ map round (spread n f)
 unfolding spread
 spread_filled g c ys round f n kept computes made =

@@ -40,7 +40,7 @@ numbered_limit g x h k (suc n) =
 
 -- ---- shifts of samples
 
--- the shift of channel k: u in front, s behind
+-- the shift of channel k: u in the first, s in those after it
 abbrev pub pair : ℕ → ℕ → ℕ → ℕ
 pair u s zero = u
 pair u s (suc _) = s
@@ -53,15 +53,15 @@ pair_limit D u s hu hs (suc k) = hs
 -- ---- nodes apart, where t is a function of the node's number
 
 -- one index moved from x to y
-move : (g : ℕ) (t : ℕ → ℕ) (before behind a x y b : ℕ) → a < g ^ before → x < g → y < g → b < g ^ behind →
-    t ((a * g + x) * g ^ behind + b) ≤ t ((a * g + y) * g ^ behind + b) + largest_along g before behind t * gap x y
-move g t before behind a x y b ha hx hy hb =
-    let step : ℕ → ℕ → ℕ → ℕ = λ u v w. gap (t ((u * g + v) * g ^ behind + w)) (t ((u * g + (v + 1)) * g ^ behind + w)) in
-    let steps : (v : ℕ) → v < g - 1 → step a v b ≤ largest_along g before behind t = λ v hv.
-    le_trans (below_largest (g ^ behind) (step a v) b hb)
-    (le_trans (below_largest (g - 1) (λ z. largest_below (g ^ behind) (step a z)) v hv)
-    (below_largest (g ^ before) (λ u. largest_below (g - 1) (λ z. largest_below (g ^ behind) (step u z))) a ha)) in
-    entries_apart (λ v. t ((a * g + v) * g ^ behind + b)) (g - 1) (largest_along g before behind t) steps x y (omega arith) (omega arith)
+move : (g : ℕ) (t : ℕ → ℕ) (before after a x y b : ℕ) → a < g ^ before → x < g → y < g → b < g ^ after →
+    t ((a * g + x) * g ^ after + b) ≤ t ((a * g + y) * g ^ after + b) + largest_along g before after t * gap x y
+move g t before after a x y b ha hx hy hb =
+    let step : ℕ → ℕ → ℕ → ℕ = λ u v w. gap (t ((u * g + v) * g ^ after + w)) (t ((u * g + (v + 1)) * g ^ after + w)) in
+    let steps : (v : ℕ) → v < g - 1 → step a v b ≤ largest_along g before after t = λ v hv.
+    le_trans (below_largest (g ^ after) (step a v) b hb)
+    (le_trans (below_largest (g - 1) (λ z. largest_below (g ^ after) (step a z)) v hv)
+    (below_largest (g ^ before) (λ u. largest_below (g - 1) (λ z. largest_below (g ^ after) (step u z))) a ha)) in
+    entries_apart (λ v. t ((a * g + v) * g ^ after + b)) (g - 1) (largest_along g before after t) steps x y (omega arith) (omega arith)
 
 -- ---- a lattice of i channels
 module _ (g i : ℕ) (t : ℕ → ℕ) where
@@ -79,9 +79,9 @@ module _ (g i : ℕ) (t : ℕ → ℕ) where
   moves x y hx hy k zero a e ha = let same : k ≡ i = omega arith in rw same (omega arith)
   moves x y hx hy k (suc n) a e ha =
       let xs = map x (range_with_len (k + 1) n) in
-      let behind : i - (k + 1) ≡ n = omega arith in
+      let after : i - (k + 1) ≡ n = omega arith in
       let one : t (numbered g (a * g + x k) xs) ≤ t (numbered g (a * g + y k) xs) + along k * gap (x k) (y k) =
-      rw (numbered_split g x (a * g + x k) (k + 1) n, numbered_split g x (a * g + y k) (k + 1) n, behind)
+      rw (numbered_split g x (a * g + x k) (k + 1) n, numbered_split g x (a * g + y k) (k + 1) n, after)
       (move g t k n a (x k) (y k) (numbered g 0 xs) ha (hx k) (hy k) (numbered_limit g x hx (k + 1) n)) in
       let below : a * g + y k < g ^ (k + 1) = rw (add-one k, pow-suc g k) (omega (arith, hy k, mul-le-mul_right g ha)) in
       let rest = moves x y hx hy (k + 1) n (a * g + y k) (omega arith) below in

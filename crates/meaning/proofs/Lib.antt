@@ -11,6 +11,8 @@ pub mod Tetrahedra
 pub mod LatticeLaws
 pub mod Digits
 pub mod Baking
+pub mod SampleLaws
+pub mod LimitLaws
 pub mod Means
 pub mod LinkLaws
 pub mod Worked

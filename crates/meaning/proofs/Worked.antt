@@ -20,7 +20,7 @@ steepness_is = refl
 
 -- ---- the lattice
 
--- two grid points a channel: behind the indices that lead to a, those of three channels weigh 4, 2 and 1
+-- two grid points a channel: after the indices that lead to a, those of three channels weigh 4, 2 and 1
 cube_sum : (t : ℕ → ℕ) (a p q r : ℕ)
     → node_samples (λ xs. t (numbered 2 a xs)) 65535 (p ∷ q ∷ r ∷ [])
     ≡ sum_below 65535 (λ s. t (8 * a + (4 * ((p + s) / 65535) + 2 * ((q + s) / 65535) + 1 * ((r + s) / 65535))))

@@ -8,7 +8,7 @@ use Rattle.meaning.specs.Sums.{sum_below, largest_below}
 use Rattle.meaning.specs.Stages.{Meaning, Lawful, rounding}
 use Rattle.meaning.specs.Curves.{entry, steepness_of_curve}
 
--- the number of the node with the indices xs, behind indices that have the number n: (n g + x) g + …, so that the
+-- the number of the node with the indices xs, after indices that have the number n: (n g + x) g + …, so that the
 -- last index moves on from node to node, and the first most seldom
 abbrev pub numbered : ℕ → ℕ → List ℕ → ℕ
 numbered g n [] = n
@@ -30,7 +30,7 @@ node g o counts j xs = output o counts j (numbered g 0 xs)
 unfoldable pub node_samples : (List ℕ → ℕ) → ℕ → List ℕ → ℕ
 node_samples node D ps = sum_below D (λ s. node (map (λ p. (p + s) / D) ps))
 
--- D · D samples added up: every u for the channel in front, at position p, with every s for the channels behind it
+-- D · D samples added up: every u for the first channel, at position p, with every s for the channels after it
 unfoldable pub pair_samples : (List ℕ → ℕ) → ℕ → ℕ → List ℕ → ℕ
 pair_samples node D p ps = sum_below D (λ u. node_samples (λ xs. node ((p + u) / D ∷ xs)) D ps)
 
@@ -54,11 +54,11 @@ lattice_exact i o g counts x = record {
 }
 
 -- how far neighbours along one channel lie apart at most, in a function t of the node's number: a is the number of
--- the indices before that channel, x its own index, and b the number of the indices behind it
+-- the indices before that channel, x its own index, and b the number of the indices after it
 abbrev pub largest_along : ℕ → ℕ → ℕ → (ℕ → ℕ) → ℕ
-largest_along g before behind t =
-    largest_below (g ^ before) (λ a. largest_below (g - 1) (λ x. largest_below (g ^ behind) (λ b.
-    gap (t ((a * g + x) * g ^ behind + b)) (t ((a * g + (x + 1)) * g ^ behind + b)))))
+largest_along g before after t =
+    largest_below (g ^ before) (λ a. largest_below (g - 1) (λ x. largest_below (g ^ after) (λ b.
+    gap (t ((a * g + x) * g ^ after + b)) (t ((a * g + (x + 1)) * g ^ after + b)))))
 
 -- the sum of these over the i in-channels
 abbrev pub total_step : ℕ → ℕ → (ℕ → ℕ) → ℕ

@@ -5,5 +5,7 @@ pub mod Sums
 pub mod Curves
 pub mod Lattices
 pub mod Matrices
+pub mod Samples
+pub mod Limits
 pub mod Links
 pub mod WorkedFigures

@@ -1,16 +1,23 @@
-// What stages mean. The definitions and laws stand in specs/ and their proofs in proofs/; the functions
-// here work out the figures that are quoted for a stage, and their contracts name the theorems. A cast narrows what is
-// proved to fit; `try_from` would ask for an answer to a failure that cannot come.
+// What stages mean. The definitions and laws stand in specs/ and their proofs in proofs/; the
+// functions here work out the figures that are quoted for a stage, and their contracts name the
+// theorems. A cast narrows what is proved to fit; `try_from` would ask for an answer to a failure
+// that cannot come.
 #![tactic(auto)]
 
-ghost use Rattle.std.specs.Prelude.{◌≡◌, ◌*◌, ◌==◌, None, Some, if◌then◌else◌};
+ghost use Rattle.std.specs.Prelude.{◌≡◌, ◌*◌, ◌==◌, ◌↔◌, IsOkAnd, IsTrue, None, Some};
+ghost use Rattle.std.specs.Prelude.{if◌then◌else◌};
 ghost use Rattle.meaning.specs.Colours.{ceiling, half_count, number};
 ghost use Rattle.meaning.specs.Curves.{CurvesKeepTheLaws, steepness_of_curve};
 ghost use Rattle.meaning.specs.Lattices.{LatticesKeepTheLaws};
+ghost use Rattle.meaning.specs.Limits.{LimitsNeverAct};
 ghost use Rattle.meaning.specs.Links.{LinksAreClose, NodesAreNumbered, error_of_link};
 ghost use Rattle.meaning.specs.Matrices.{MatricesKeepTheLaws, RowsAreSignedSums};
-ghost use Rattle.meaning.specs.Stages.{EqualInEqualOut, JoiningKeepsTheLaws, error_of_joined, steepness_of_joined, unclaimed};
-ghost use Rattle.meaning.specs.WorkedFigures.{WorkedFigures, cube_figures, fading_figures, figures, link_figures};
+ghost use Rattle.meaning.specs.Stages.{EqualInEqualOut, JoiningKeepsTheLaws};
+ghost use Rattle.meaning.specs.Stages.{error_of_joined, steepness_of_joined, unclaimed};
+ghost use Rattle.meaning.specs.WorkedFigures.{WorkedFigures, cube_figures, fading_figures, figures};
+ghost use Rattle.meaning.specs.WorkedFigures.{link_figures};
+
+use std::alloc::AllocError;
 
 // The channels of a colour.
 pub const CHANNELS: usize = 4;
@@ -27,7 +34,8 @@ pub const HALF_COUNT: u32 = 32_768;
 // The whole range of a channel, 65,535 counts, in grains.
 pub const FULL_RANGE: u32 = 4_294_901_760;
 
-// The steepness that claims nothing: a number, since the definitions and every quoted figure have it so.
+// The steepness that claims nothing: a number, since the definitions and every quoted figure have
+// it so.
 pub const UNCLAIMED: u32 = 1 << 30;
 
 // How many channels a stage or a pixel has.
@@ -51,6 +59,14 @@ impl Channels {
     }
 }
 
+// Names what `==` and `clone` say: a clone of the second equals the first where both are the same,
+// and nowhere else. So no two are equal, and a clone is its original.
+fn equals_clone(first: Channels, second: &Channels) -> Result<bool, AllocError>
+    ensures { IsOkAnd result (λ equal. IsTrue equal ↔ (first ≡ second.now)) }
+{
+    Ok(first == second.clone()?)
+}
+
 // Names the theorem: two stages that keep the laws keep them joined.
 fn joining_keeps_the_laws()
     ensures { JoiningKeepsTheLaws }
@@ -69,6 +85,11 @@ fn curves_keep_the_laws()
 // Names the theorem: lattices keep the laws, whatever their nodes hold.
 fn lattices_keep_the_laws()
     ensures { LatticesKeepTheLaws }
+{}
+
+// Names the theorem: the limits that stand in definitions act on nothing that the types hold.
+fn limits_never_act()
+    ensures { LimitsNeverAct }
 {}
 
 // Names the theorem: a matrix keeps the laws, whatever its coefficients are.
@@ -103,8 +124,8 @@ fn claimed(steepness: u32) -> Option<u32>
     (steepness != UNCLAIMED).then_some(steepness)
 }
 
-// The steepness of two stages joined. Joined so, stages keep the laws; and equal exact colours have equal
-// results in every stage that keeps them.
+// The steepness of two stages joined. Joined so, stages keep the laws; and equal exact colours have
+// equal results in every stage that keeps them.
 pub fn joined_steepness(first: u32, second: u32) -> u32
     ensures value { result ≡ steepness_of_joined first second }
     ensures law { JoiningKeepsTheLaws }
@@ -121,8 +142,8 @@ pub fn joined_steepness(first: u32, second: u32) -> u32
         .min(u64::from(UNCLAIMED)) as u32
 }
 
-// The error of two stages joined: the second's steepness carries the first's error on, and the second's
-// own error is added.
+// The error of two stages joined: the second's steepness carries the first's error on, and the
+// second's own error is added.
 pub fn joined_error(steepness: u32, first: u32, second: u32) -> u32
     ensures { result ≡ error_of_joined steepness first second }
 {
@@ -133,8 +154,9 @@ pub fn joined_error(steepness: u32, first: u32, second: u32) -> u32
     (carried + u64::from(second)).min(u64::from(FULL_RANGE)) as u32
 }
 
-// The error of a link with `grid` grid points, baked from a stage with this error and steepness. With it, a baked link
-// is close to the exact map of its stage; and its nodes are counted in lattice order.
+// The error of a link with `grid` grid points, baked from a stage with this error and steepness.
+// With it, a baked link is close to the exact map of its stage; and its nodes are counted in
+// lattice order.
 #[tactic(auto, using(crate::proofs::Rounding::div_ceil_is))]
 pub fn link_error(error: u32, steepness: u32, grid: u8) -> u32
     ensures value { result ≡ error_of_link error steepness grid }
@@ -152,22 +174,26 @@ pub fn link_error(error: u32, steepness: u32, grid: u8) -> u32
     (u64::from(error) + carried + u64::from(HALF_COUNT)).min(u64::from(FULL_RANGE)) as u32
 }
 
-// The steepness of tables with `points` points along a channel, where one step in every channel at once moves the
-// value by at most `step` counts. With it, curves and lattices keep the laws.
+// The steepness of tables with `points` points along a channel, where one step in every channel at
+// once moves the value by at most `step` counts. With it, curves and lattices keep the laws; and no
+// limit of theirs, nor of a sample, acts on what the types hold.
 pub fn table_steepness(points: u16, step: u32) -> u32
     ensures value { result ≡ steepness_of_curve points step }
     ensures curves { CurvesKeepTheLaws }
     ensures lattices { LatticesKeepTheLaws }
+    ensures limits { LimitsNeverAct }
 {
     curves_keep_the_laws();
     lattices_keep_the_laws();
+    limits_never_act();
     let rise = u64::from(GRAINS) * u64::from(points.saturating_sub(1)) * u64::from(step);
     rise.div_ceil(u64::from(MAX_COUNT))
         .min(u64::from(UNCLAIMED)) as u32
 }
 
-// The error of a matrix: none where all its coefficients are whole, else half a count. With it, matrices
-// keep the laws; and each row's value is its signed sum, held to the range. A plain `bool`, since nothing stands beside it.
+// The error of a matrix: none where all its coefficients are whole, else half a count. With it,
+// matrices keep the laws; and each row's value is its signed sum, held to the range. A plain
+// `bool`, since nothing stands beside it.
 pub fn matrix_error(whole: bool) -> u32
     ensures value { result ≡ (if whole then 0 else half_count) }
     ensures law { MatricesKeepTheLaws }
@@ -178,8 +204,8 @@ pub fn matrix_error(whole: bool) -> u32
     if whole { 0 } else { HALF_COUNT }
 }
 
-// Grains as 100,000ths of a count, rounded up: a bound that is quoted in counts with five decimals is never
-// quoted too small.
+// Grains as 100,000ths of a count, rounded up: a bound that is quoted in counts with five decimals
+// is never quoted too small.
 pub fn hundred_thousandths(grains: u32) -> u64
     ensures { result ≡ ceiling (grains * 100000) 65536 }
 {
@@ -187,10 +213,10 @@ pub fn hundred_thousandths(grains: u32) -> u64
 }
 
 // The worked figures, stage by stage.
-#[derive(Clone, Copy, PartialEq, Eq, Debug)]
+#[derive(Clone, Copy)]
 pub struct Figures {
-    // Two answers of a bent curve and its steepness, an answer rounded upward and one held to 0 of a matrix, and an
-    // error carried through the curve.
+    // Two answers of a bent curve and its steepness, an answer rounded upward and one held to 0 of
+    // a matrix, and an error carried through the curve.
     pub curves: [u32; 6],
     // Three answers of a lattice of three channels, and its steepness.
     pub cube: [u32; 4],
@@ -203,7 +229,7 @@ pub struct Figures {
 // The worked figures, which hold of the definitions.
 pub fn worked_figures() -> Figures
     ensures hold { WorkedFigures }
-    ensures told { result.curves ≡ figures }
+    ensures curves { result.curves ≡ figures }
     ensures cube { result.cube ≡ cube_figures }
     ensures fading { result.fading_cube ≡ fading_figures }
     ensures link { result.link ≡ link_figures }

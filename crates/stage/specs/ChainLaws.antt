@@ -1,4 +1,6 @@
--- Chains keep the laws, since joining does, and take what their first stage takes. Assumes nothing.
+-- Chains keep the laws, since joining does, and take what their first stage takes. Proofs by recursion on the list, with no
+-- tactic: they stand here because `Chain` cites them as its `lawful`, and a contract may cite no proofs/ of its own crate.
+-- Assumes nothing.
 use Rattle.std.specs.Prelude.{◌≡◌, List, [], ◌∷◌, fold, refl}
 use Rattle.meaning.proofs.JoinLaws.{joining_lawful}
 use Rattle.meaning.specs.Stages.{Meaning, Lawful, joined}

@@ -3,9 +3,10 @@ use Rattle.std.specs.Prelude.{ℕ, ◌+◌, ◌-◌, ◌*◌, cond, List, [], �
 use Rattle.meaning.specs.declared.Channels.{Channels}
 use Rattle.meaning.specs.declared.Channels.TheVariants.{One, Three, Four}
 use Rattle.meaning.specs.Colours.{number, at, Exact, spread}
+use Rattle.meaning.specs.Curves.{entry}
 use Rattle.meaning.specs.Distances.{gap}
 use Rattle.meaning.specs.Lattices.{output}
-use Rattle.meaning.specs.Sums.{sum_below}
+use Rattle.meaning.specs.Sums.{sum_below, largest_below}
 use Rattle.stage.specs.declared.lattice.Lattice.{Lattice}
 use Rattle.stage.specs.declared.lattice.Grid.{Grid}
 use Rattle.stage.specs.declared.lattice.Cell.{Cell}
@@ -60,10 +61,22 @@ cell_terms (Paired l t) = 65535 * 65535
 abbrev pub cell_exact : ℕ → (ℕ → ℕ) → Cell → Exact
 cell_exact o f t = record { nums = spread o (cell_sum f t); den = cell_terms t }
 
--- output j of node n; `counts` is what the source of the entries means
+-- the entry at a place of the table; `counts` is what the source of the entries means
+abbrev pub lattice_entry : {E : Type 0} → (E → List ℕ) → Lattice E → ℕ → ℕ
+lattice_entry counts s = entry (counts s.table)
+
+-- output j of node n
 abbrev pub output_of_node : {E : Type 0} → (E → List ℕ) → Lattice E → ℕ → ℕ → ℕ
 output_of_node counts s = output (number s.outs) (counts s.table)
 
--- the difference of that output and the same one `behind` nodes later
+-- the difference of that output and the same one `after` nodes later
 abbrev pub step_of_output : {E : Type 0} → (E → List ℕ) → Lattice E → ℕ → ℕ → ℕ → ℕ
-step_of_output counts s j behind n = gap (output_of_node counts s j n) (output_of_node counts s j (n + behind))
+step_of_output counts s j after n = gap (output_of_node counts s j n) (output_of_node counts s j (n + after))
+
+-- the largest of these in a block, the nodes from `first` on over which the channel's own index runs once through
+abbrev pub step_of_block : {E : Type 0} → (E → List ℕ) → Lattice E → ℕ → ℕ → ℕ → ℕ
+step_of_block counts s j after first = largest_below ((s.grid - 1) * after) (λ n. step_of_output counts s j after (first + n))
+
+-- and in all blocks, one for each of the `before` combinations of indices of the channels before
+abbrev pub step_of_blocks : {E : Type 0} → (E → List ℕ) → Lattice E → ℕ → ℕ → ℕ → ℕ
+step_of_blocks counts s j before after = largest_below before (λ a. step_of_block counts s j after (a * (s.grid * after)))

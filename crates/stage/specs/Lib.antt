@@ -1,5 +1,4 @@
 pub mod Entries
-pub mod Samples
 pub mod Curves
 pub mod Legs
 pub mod Lattices

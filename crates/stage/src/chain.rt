@@ -1,7 +1,8 @@
 // Stages of one type that run one after the other.
-ghost use Rattle.std.specs.Prelude.{◌≡◌, ◌↔◌, [], IsNone, IfSome};
+ghost use Rattle.std.specs.Option.{option_map};
+ghost use Rattle.std.specs.Prelude.{◌≡◌};
 ghost use Rattle.stage.specs.ChainLaws.{chained_lawful};
-ghost use Rattle.stage.specs.Chains.{chained, stages_of};
+ghost use Rattle.stage.specs.Chains.{chain_over, chained, stages_of};
 
 use crate::traits::{Colour, Stage};
 use meaning::{Channels, joined_error, joined_steepness};
@@ -16,14 +17,13 @@ pub struct Chain<'a, S> {
 impl<'a, S> Chain<'a, S> {
     // The chain of these stages, or nothing where there is none.
     pub fn new(stages: &'a [S]) -> Option<Chain<'a, S>>
-        ensures none { IsNone result ↔ (stages.now ≡ []) }
-        ensures stages { IfSome result (λ chain. stages_of chain ≡ stages.now) }
+        ensures { option_map stages_of result ≡ chain_over stages.now }
     {
         let (first, rest) = stages.split_first()?;
         Some(Chain::of(first, rest))
     }
 
-    // The chain of a stage and those behind it.
+    // The chain of a stage and those after it.
     pub fn of(first: &'a S, rest: &'a [S]) -> Chain<'a, S>
         ensures first { result.first.now ≡ first.now }
         ensures rest { result.rest.now ≡ rest.now }
@@ -35,7 +35,10 @@ impl<'a, S> Chain<'a, S> {
 impl<S: Stage> Stage for Chain<'_, S> {
     ghost meaning = { λ s. chained S.Stage.meaning s.first.now s.rest.now };
 
-    ghost lawful = { λ s. chained_lawful S.Stage.meaning S.Stage.lawful (S.Stage.meaning s.first.now) (S.Stage.lawful s.first.now) s.rest.now };
+    ghost lawful = { λ s.
+        let first = s.first.now in
+        chained_lawful S.Stage.meaning S.Stage.lawful
+        (S.Stage.meaning first) (S.Stage.lawful first) s.rest.now };
 
     #[tactic(auto, using(crate::specs::ChainLaws::chained_ins))]
     fn ins(&self) -> Channels {
@@ -46,8 +49,8 @@ impl<S: Stage> Stage for Chain<'_, S> {
         self.rest.last().unwrap_or(self.first).outs()
     }
 
-    // A loop here and below, each with its invariant: a `fold` would need an answer in its place and an `ensures` of its
-    // closure besides, and a wrong line would be refused in that answer.
+    // A loop here and below, each with its invariant: a `fold` would need an answer in its place
+    // and an `ensures` of its closure besides, and a wrong line would be refused in that answer.
     fn steepness(&self) -> u32 {
         let mut steepness = self.first.steepness();
         for next in self.rest {

@@ -1,16 +1,18 @@
 // Tone curves: one table of counts for each channel, with the answer interpolated between entries.
-ghost use Rattle.std.specs.Prelude.{◌≡◌, ◌-◌, ◌*◌, ◌<◌, ◌≤◌};
+ghost use Rattle.std.specs.Prelude.{◌≡◌, ◌↔◌, ◌-◌, ◌*◌, ◌<◌, ◌≤◌, IsOkAnd, IsTrue};
 ghost use Rattle.meaning.proofs.CurveLaws.{curves_lawful};
-ghost use Rattle.meaning.specs.Colours.{number, rounded};
+ghost use Rattle.meaning.specs.Colours.{rounded};
 ghost use Rattle.meaning.specs.Curves.{curves};
-ghost use Rattle.meaning.specs.Sums.{largest_below, samples};
-ghost use Rattle.stage.specs.Curves.{entries, table_length, curves_over, curves_with, curve_entry, curve_step};
+ghost use Rattle.stage.specs.Curves.{entries, table_length, curves_over, curves_with};
+ghost use Rattle.stage.specs.Curves.{curve_entry, curve_samples, curve_step};
+ghost use Rattle.stage.specs.Curves.{largest_step, largest_step_of};
 
 use crate::entries::Entries;
 use crate::folding::{colour_of, largest};
 use crate::traits::{Colour, Stage};
 use crate::weighing::{SAMPLES, blend, nearest};
 use meaning::{Channels, HALF_COUNT, table_steepness};
+use std::alloc::AllocError;
 
 // How many entries each table of curves has: 2 to 4,096.
 #[derive(Clone, Copy, PartialEq, Eq, Debug)]
@@ -33,8 +35,16 @@ impl TableLength {
     }
 }
 
-// Curves over 1, 3 or 4 channels. The tables of `length` entries lie one after the other; how many entries there are is
-// not told by it.
+// Names what `==` and `clone` say: a clone of the second equals the first where both are the same,
+// and nowhere else. So no two lengths are equal, and a clone is its original.
+fn equals_clone(first: TableLength, second: &TableLength) -> Result<bool, AllocError>
+    ensures { IsOkAnd result (λ equal. IsTrue equal ↔ (first ≡ second.now)) }
+{
+    Ok(first == second.clone()?)
+}
+
+// Curves over 1, 3 or 4 channels. The tables of `length` entries lie one after the other; how many
+// entries the source has stands nowhere.
 #[derive(Clone, Copy)]
 pub struct Curves<E> {
     channels: Channels,
@@ -42,7 +52,8 @@ pub struct Curves<E> {
     pub table: E,
 }
 
-// The curve of one channel. It, `Row` and `Plane` are parts of a whole, but a generic part would have no methods to share.
+// The curve of one channel. It, `Row` and `Plane` are parts of a whole, but a generic part would
+// have no methods to share.
 #[derive(Drop)]
 struct Curve<'a, E> {
     curves: &'a Curves<E>,
@@ -91,7 +102,7 @@ impl<E: Entries> Curves<E> {
 
     // The largest difference of neighbours in any channel's table.
     fn largest_step(&self) -> u32
-        ensures { result ≡ largest_below (number self.now.channels) (λ k. largest_below (self.now.length - 1) (curve_step E.Entries.counts self.now k)) }
+        ensures { result ≡ largest_step E.Entries.counts self.now }
     {
         let channels = self.channels.number();
         largest(channels, |channel| self.curve(channel).largest_step())
@@ -102,7 +113,8 @@ impl<E: Entries> Curve<'_, E> {
     // The entry at `index` of the table.
     fn entry(&self, index: usize) -> u16
         requires { index ≤ 65536 }
-        ensures { result ≡ curve_entry E.Entries.counts self.now.curves.now self.now.channel index }
+        ensures { let curves = self.now.curves.now in
+            result ≡ curve_entry E.Entries.counts curves self.now.channel index }
     {
         let start = self.channel * usize::from(self.curves.length);
         self.curves.table.entry(start + index)
@@ -111,7 +123,8 @@ impl<E: Entries> Curve<'_, E> {
     // The samples of the table at a position, added up.
     fn samples(&self, position: u32) -> u64
         requires { position ≤ 65535 * 65535 }
-        ensures value { result ≡ samples (curve_entry E.Entries.counts self.now.curves.now self.now.channel) 65535 position }
+        ensures value { let curves = self.now.curves.now in
+            result ≡ curve_samples E.Entries.counts curves self.now.channel position }
         ensures limit { result ≤ 65535 * 65535 }
     {
         let index = (position / SAMPLES) as usize;
@@ -122,7 +135,10 @@ impl<E: Entries> Curve<'_, E> {
 
     // The answer: the samples at the count's position, rounded once.
     fn value(&self, count: u16) -> u16
-        ensures { result ≡ rounded (samples (curve_entry E.Entries.counts self.now.curves.now self.now.channel) 65535 (count * (self.now.curves.now.length - 1))) 65535 }
+        ensures { let curves = self.now.curves.now in
+            let position = count * (curves.length - 1) in
+            let sum = curve_samples E.Entries.counts curves self.now.channel position in
+            result ≡ rounded sum 65535 }
     {
         let steps = u32::from(self.curves.length.saturating_sub(1));
         nearest::<SAMPLES>(self.samples(u32::from(count) * steps))
@@ -131,14 +147,15 @@ impl<E: Entries> Curve<'_, E> {
     // The difference of an entry and the next one.
     fn step(&self, index: usize) -> u32
         requires { index < 65536 }
-        ensures { result ≡ curve_step E.Entries.counts self.now.curves.now self.now.channel index }
+        ensures { let curves = self.now.curves.now in
+            result ≡ curve_step E.Entries.counts curves self.now.channel index }
     {
         u32::from(self.entry(index).abs_diff(self.entry(index + 1)))
     }
 
     // The largest difference of neighbours in the table.
     fn largest_step(&self) -> u32
-        ensures { result ≡ largest_below (self.now.curves.now.length - 1) (curve_step E.Entries.counts self.now.curves.now self.now.channel) }
+        ensures { result ≡ largest_step_of E.Entries.counts self.now.curves.now self.now.channel }
     {
         let steps = usize::from(self.curves.length.saturating_sub(1));
         largest(steps, |index| self.step(index))

@@ -27,7 +27,8 @@ pub type NodeTable<'a> = Table<'a, u16>;
 #[derive(Clone, Copy)]
 pub struct WideBytes<'a>(pub &'a [u8]);
 
-// Two bytes as one number, the high one first. Apart, so that another order is refused here and not in a proof.
+// Two bytes as one number, the high one first. Apart, so that another order is refused here and not
+// in a proof.
 fn two_bytes(pair: &[u8; 2]) -> u16
     ensures { result ≡ 256 * slice_index pair.now 0 + slice_index pair.now 1 }
 {

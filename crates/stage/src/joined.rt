@@ -14,7 +14,9 @@ pub struct Joined<A, B> {
 impl<A: Stage, B: Stage> Stage for Joined<A, B> {
     ghost meaning = { λ s. joined (A.Stage.meaning s.first) (B.Stage.meaning s.second) };
 
-    ghost lawful = { λ s. joining_lawful (A.Stage.meaning s.first) (B.Stage.meaning s.second) (A.Stage.lawful s.first) (B.Stage.lawful s.second) };
+    ghost lawful = { λ s.
+        joining_lawful (A.Stage.meaning s.first) (B.Stage.meaning s.second)
+        (A.Stage.lawful s.first) (B.Stage.lawful s.second) };
 
     fn ins(&self) -> Channels {
         self.first.ins()

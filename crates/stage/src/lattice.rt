@@ -1,18 +1,18 @@
 // Lattices of nodes over 1, 3 or 4 channels, with the answer interpolated in tetrahedra.
-ghost use Rattle.std.specs.Prelude.{◌≡◌, ◌+◌, ◌-◌, ◌*◌, ◌^◌, ◌<◌, ◌≤◌};
+ghost use Rattle.std.specs.Prelude.{◌≡◌, ◌↔◌, ◌-◌, ◌*◌, ◌^◌, ◌<◌, ◌≤◌, IsOkAnd, IsTrue};
 ghost use Rattle.meaning.proofs.LatticeLaws.{lattices_lawful};
 ghost use Rattle.meaning.specs.Colours.{number, nearest};
 ghost use Rattle.meaning.specs.Lattices.{lattice, entries_of_lattice};
-ghost use Rattle.meaning.specs.Sums.{sum_below};
-ghost use Rattle.meaning.specs.Curves.{entry};
-ghost use Rattle.stage.specs.Lattices.{grid_of, lattice_over, lattice_points, lattice_with, points, strides, cell, cell_exact};
-ghost use Rattle.stage.specs.Legs.{reach_all};
+ghost use Rattle.stage.specs.Lattices.{cell, cell_exact, cell_sum, grid_of, lattice_entry};
+ghost use Rattle.stage.specs.Lattices.{lattice_over, lattice_points, lattice_with, points, strides};
+ghost use Rattle.stage.specs.declared.lattice.Cell.TheVariants.{Alone};
 
 use crate::entries::Entries;
 use crate::folding::colour_of;
 use crate::legs::{IDLE, Leg, Legs};
 use crate::traits::{Colour, Stage};
 use meaning::{Channels, HALF_COUNT, table_steepness};
+use std::alloc::AllocError;
 
 // How many points a lattice has along each in-channel: 2 to 255.
 #[derive(Clone, Copy, PartialEq, Eq, Debug)]
@@ -33,8 +33,16 @@ impl Grid {
     }
 }
 
-// A lattice of `grid` points in each in-channel. From one node of the table to the next the last in-channel moves on
-// first, and all outputs of a node stand together.
+// Names what `==` and `clone` say: a clone of the second equals the first where both are the same,
+// and nowhere else. So no two grids are equal, and a clone is its original.
+fn equals_clone(first: Grid, second: &Grid) -> Result<bool, AllocError>
+    ensures { IsOkAnd result (λ equal. IsTrue equal ↔ (first ≡ second.now)) }
+{
+    Ok(first == second.clone()?)
+}
+
+// A lattice of `grid` points in each in-channel. From one node of the table to the next the last
+// in-channel moves on first, and all outputs of a node stand together.
 #[derive(Clone, Copy)]
 pub struct Lattice<E> {
     pub(crate) ins: Channels,
@@ -43,14 +51,15 @@ pub struct Lattice<E> {
     pub table: E,
 }
 
-// Where a colour lies in a lattice: the legs of up to three channels, and before them that of the first of four.
+// Where a colour lies in a lattice: the legs of up to three channels, and before them that of the
+// first of four.
 #[derive(Drop)]
 pub(crate) enum Cell {
     Alone(Legs),
     Paired(Leg, Legs),
 }
 
-// How many nodes some channels have together.
+// How many nodes some channels have together. The limits keep sums of their places within range.
 pub(crate) fn node_count(grid: u8, channels: usize) -> usize
     requires { channels ≤ 4 }
     ensures value { result ≡ grid ^ channels }
@@ -119,8 +128,8 @@ impl<E: Entries> Lattice<E> {
         self.grid.saturating_sub(1)
     }
 
-    // How many entries a step passes over in each of four in-channels: one node in the last of them, and `grid` times
-    // as many in each channel before it.
+    // How many entries a step passes over in each of four in-channels: one node in the last of
+    // them, and `grid` times as many in each channel before it.
     fn strides(&self) -> [u32; 4]
         ensures { result ≡ strides (number self.now.outs) self.now.grid }
     {
@@ -164,15 +173,17 @@ impl<E: Entries> Lattice<E> {
 
     // The entry at a place of the table.
     pub(crate) fn entry(&self, place: usize) -> u16
-        ensures { result ≡ entry (E.Entries.counts self.now.table) place }
+        ensures { result ≡ lattice_entry E.Entries.counts self.now place }
     {
         self.table.entry(place)
     }
 
-    // The sum of all samples, with places counted from `place`: the four corners of a tetrahedron, weighed.
+    // The sum of all samples, with places counted from `place`: the four corners of a tetrahedron,
+    // weighed.
     pub(crate) fn tetrahedron(&self, legs: &Legs, place: usize) -> u32
         requires { place ≤ 2 ^ 42 }
-        ensures value { result ≡ sum_below 65535 (λ s. entry (E.Entries.counts self.now.table) (place + reach_all legs.now s)) }
+        ensures value { let entry = lattice_entry E.Entries.counts self.now in
+            result ≡ cell_sum entry (Alone legs.now) place }
         ensures limit { result ≤ 65535 * 65535 }
     {
         let [base, second, third, last] = legs.corners(place);
@@ -186,7 +197,8 @@ impl<E: Entries> Lattice<E> {
 
     // All outputs of the answer.
     fn outputs(&self, cell: &Cell) -> Colour
-        ensures { result ≡ nearest (cell_exact (number self.now.outs) (entry (E.Entries.counts self.now.table)) cell.now) }
+        ensures { let entry = lattice_entry E.Entries.counts self.now in
+            result ≡ nearest (cell_exact (number self.now.outs) entry cell.now) }
     {
         colour_of(self.outs.number(), |k| self.plane(k).value(cell))
     }

@@ -1,14 +1,15 @@
-// Legs: the step that samples take along one channel of a lattice, from a node to its neighbour, and the three
-// steps that lead from corner to corner of a tetrahedron.
+// Legs: the step that samples take along one channel of a lattice, from a node to its neighbour,
+// and the three steps that lead from corner to corner of a tetrahedron.
 ghost use Rattle.std.specs.Prelude.{◌≡◌, ◌+◌, ◌-◌, ◌*◌, ◌^◌, ◌≤◌, [], ◌∷◌};
-ghost use Rattle.stage.specs.Legs.{leg, start_of, ordered, Three, Falling, Kept, sorted, corners_from, weighed};
+ghost use Rattle.stage.specs.Legs.{Falling, Kept, Three};
+ghost use Rattle.stage.specs.Legs.{corners_from, leg, ordered, sorted, start_of, weighed};
 
 use crate::weighing::SAMPLES;
 use meaning::MAX_COUNT;
 use std::marker::Model;
 
-// Along one channel, the index of the node below, how many entries away its neighbour lies, and how many of the
-// samples step over to it.
+// Along one channel, the index of the node below, how many entries away its neighbour lies, and how
+// many of the samples step over to it.
 #[derive(Clone, Copy)]
 pub(crate) struct Leg {
     pub index: u8,
@@ -16,7 +17,8 @@ pub(crate) struct Leg {
     pub rest: u16,
 }
 
-// Three legs, the one that most samples take first, and the entries before the nodes below, of all three.
+// Three legs, the one that most samples take first, and the entries before the nodes below, of all
+// three.
 #[derive(Drop)]
 pub(crate) struct Legs {
     start: usize,
@@ -30,11 +32,12 @@ impl Model for Legs {
 
     ghost view = { λ t. record { most = t.most; middle = t.middle; least = t.least } };
 
-    ghost invariant = { λ t. Kept t.start (record { most = t.most; middle = t.middle; least = t.least }) };
+    ghost invariant = { λ t.
+        Kept t.start (record { most = t.most; middle = t.middle; least = t.least }) };
 }
 
-// The leg of a channel that a lattice does not have. No sample takes it, so that one sum of corners serves one channel and
-// three; an option would be asked at each corner.
+// The leg of a channel that a lattice does not have. No sample takes it, so that one sum of corners
+// serves one channel and three; an option would be asked at each corner.
 pub(crate) const IDLE: Leg = Leg {
     index: 0,
     stride: 0,
@@ -79,8 +82,8 @@ fn read_by(samples: u16, count: u16) -> u32
 }
 
 impl Legs {
-    // Three legs in order. A stable sort would ask for memory, and the other does not tell the order of equal rests, as the
-    // definition does.
+    // Three legs in order. A stable sort would ask for memory, and the other leaves the order of
+    // equal rests open, which the definition fixes.
     pub(crate) fn sorted(a: Leg, b: Leg, c: Leg) -> Legs
         ensures { result ≡ sorted a b c }
     {
@@ -108,8 +111,8 @@ impl Legs {
         [base, second, third, third + self.least.stride as usize]
     }
 
-    // The counts at the corners, each weighed by the samples that read it. Each function that hands such a sum on states
-    // its `limit`; a type that carried it would need the same proofs.
+    // The counts at the corners, each weighed by the samples that read it. Each function that hands
+    // such a sum on states its `limit`; a type that carried it would need the same proofs.
     pub(crate) fn weigh(&self, base: u16, second: u16, third: u16, last: u16) -> u32
         ensures value { result ≡ weighed self.now (base ∷ second ∷ third ∷ last ∷ []) }
         ensures limit { result ≤ 65535 * 65535 }

@@ -1,6 +1,7 @@
-// Stages: what a chain is made of. A stage turns a colour into a colour, and tells how far its answers
-// may lie from the exact map that it stands for. A cast narrows what is proved to fit, where `try_from` would ask for
-// an answer to a failure that cannot come, or makes an index of a `u32`, for which there is no `From`.
+// Stages: what a chain is made of. A stage turns a colour into a colour, and reports how far its
+// answers may lie from the exact map that it stands for. A cast narrows what is proved to fit,
+// where `try_from` would ask for an answer to a failure that cannot come, or makes an index of a
+// `u32`, for which there is no `From`.
 #![tactic(auto)]
 
 pub mod chain;

@@ -1,7 +1,8 @@
 // The matrix stage: nine signed coefficients, from three channels to three.
 ghost use Rattle.std.specs.Prelude.{◌≡◌, ◌^◌, ◌<◌, ◌≤◌, min, pos, ◌-ℤ◌, ◌*ℤ◌};
 ghost use Rattle.meaning.specs.Colours.{full_range, grains, whole, rounded};
-ghost use Rattle.meaning.specs.Matrices.{adds, takes, coefficient, weighted, row_value, row_sum, is_whole_number, all_whole, matrix};
+ghost use Rattle.meaning.specs.Matrices.{adds, coefficient, row_sum, row_value, takes, weighted};
+ghost use Rattle.meaning.specs.Matrices.{all_whole, is_whole_number, matrix};
 ghost use Rattle.meaning.proofs.MatrixLaws.{matrix_lawful};
 
 use crate::traits::{Colour, Stage};
@@ -60,7 +61,9 @@ impl Row<'_> {
 
     // The sum of coefficient times channel.
     fn sum(&self, colour: &Colour) -> i64
-        ensures { result ≡ pos (weighted adds self.now.matrix.now.coefficients self.now.number colour.now) -ℤ pos (weighted takes self.now.matrix.now.coefficients self.now.number colour.now) }
+        ensures { let es = self.now.matrix.now.coefficients in
+            let taken = pos (weighted takes es self.now.number colour.now) in
+            result ≡ pos (weighted adds es self.now.number colour.now) -ℤ taken }
     {
         product(self.at(0), colour[0])
             + product(self.at(1), colour[1])
@@ -69,7 +72,8 @@ impl Row<'_> {
 
     // The row's channel of the answer.
     fn channel(&self, colour: &Colour) -> u16
-        ensures { result ≡ rounded (row_value self.now.matrix.now.coefficients (whole colour.now) self.now.number) grains }
+        ensures { let coefficients = self.now.matrix.now.coefficients in
+            result ≡ rounded (row_value coefficients (whole colour.now) self.now.number) grains }
     {
         nearest::<GRAINS>(held(self.sum(colour)))
     }

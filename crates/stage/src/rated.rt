@@ -6,7 +6,7 @@ use crate::traits::{Colour, Stage};
 use meaning::Channels;
 use std::marker::Model;
 
-// A stage that keeps its steepness and error, so that telling them takes no time.
+// A stage that keeps its steepness and error, so that asking for them takes no time.
 #[derive(Drop)]
 pub struct Rated<S: Stage> {
     stage: S,

@@ -1,6 +1,7 @@
 // The numbers that store one channel: how they stand for counts, and the two widths that there are.
 ghost use Rattle.std.specs.Prelude.{◌≡◌};
-ghost use Rattle.stage.specs.Samples.{Width, LawfulWidth, eight_bits, sixteen_bits, eight_bits_lawful, sixteen_bits_lawful};
+ghost use Rattle.meaning.proofs.SampleLaws.{eight_bits_lawful, sixteen_bits_lawful};
+ghost use Rattle.meaning.specs.Samples.{Width, LawfulWidth, eight_bits, sixteen_bits};
 
 use meaning::GRAINS;
 

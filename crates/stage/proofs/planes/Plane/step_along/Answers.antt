@@ -7,4 +7,4 @@ use Rattle.stage.proofs.planes.Plane.step_along.Goals as goal
 pub returns : goal.returns
 returns g c =
     let s = c.args.self.now.lattice.now in
-    rw (c.axis.ensures.before, c.axis.ensures.behind) at c.axis_step.ensures ∙ along_blocks s.grid c.args.k (number s.ins - (c.args.k + 1)) (output_of_node g.E.Entries.counts s c.args.self.now.output)
+    rw (c.axis.ensures.before, c.axis.ensures.after) at c.axis_step.ensures ∙ along_blocks s.grid c.args.k (number s.ins - (c.args.k + 1)) (output_of_node g.E.Entries.counts s c.args.self.now.output)

@@ -4,7 +4,7 @@ use Rattle.meaning.specs.Lattices.{largest_along}
 use Rattle.meaning.proofs.Channelwise.{number_limit}
 use Rattle.meaning.proofs.Listed.{sum_of_range, sum_fits}
 use Rattle.stage.specs.Lattices.{output_of_node}
-use Rattle.stage.proofs.GridLaws.{along_limit}
+use Rattle.meaning.proofs.LimitLaws.{along_limit}
 use Rattle.stage.proofs.planes.Plane.total_step.Goals as goal
 
 pub sum-requires-clause-fits : goal.sum-requires-clause-fits

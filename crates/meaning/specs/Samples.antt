@@ -1,6 +1,5 @@
--- How one channel is stored as a number, in eight bits or in sixteen, and what every width keeps. Assumes nothing.
+-- How one channel is stored as a number, in eight bits or in sixteen, and what every width keeps.
 use Rattle.std.specs.Prelude.{◌≡◌, ℕ, ◌+◌, ◌*◌, ◌/◌, ◌≤◌, min}
-use Rattle.std.proofs.Common.{arith}
 use Rattle.meaning.specs.Colours.{max_count, grains, full_range}
 use Rattle.meaning.specs.Distances.{gap}
 
@@ -18,7 +17,7 @@ eight_bits = record { count = λ v. 257 * v; nearest = λ c. (c + 128) / 257; er
 abbrev pub sixteen_bits : Width ℕ
 sixteen_bits = record { count = λ v. v; nearest = λ c. c; error = 0 }
 
--- the count that a number shows; none that fits its width passes 65,535, so the limit never acts
+-- the count that a number shows, held to 65,535: `LimitsNeverAct` says that this changes no number of its width
 abbrev pub shown_count : {S : Type 0} → Width S → S → ℕ
 shown_count w v = min max_count (w.count v)
 
@@ -29,9 +28,3 @@ pub record LawfulWidth {S : Type 0} (w : Width S) : Type 0 where
   pub close : (c : ℕ) → c ≤ max_count → gap (shown_count w (w.nearest c)) c * grains ≤ w.error
   -- showing a number and making it again loses nothing of what it shows
   pub back : (v : S) → shown_count w (w.nearest (shown_count w v)) ≡ shown_count w v
-
-pub eight_bits_lawful : LawfulWidth eight_bits
-eight_bits_lawful = record { error_limit = omega arith; close = λ c h. omega arith; back = λ v. omega arith }
-
-pub sixteen_bits_lawful : LawfulWidth sixteen_bits
-sixteen_bits_lawful = record { error_limit = omega arith; close = λ c h. omega arith; back = λ v. omega arith }
