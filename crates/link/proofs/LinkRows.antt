@@ -15,7 +15,7 @@ use Rattle.link.specs.declared.state.State.TheVariants as state
 use Rattle.link.specs.declared.state.Event.TheVariants.{LinkRow}
 use Rattle.stage.specs.Lattices.{points}
 use Rattle.link.specs.Calls.{link_checks, link_numbers, table_link, link_row_refusal, link_row_answer, link_row_left}
-use Rattle.link.specs.Kinds.{Kind, LawfulKind}
+use Rattle.meaning.specs.Kinds.{Kind, LawfulKind}
 use Rattle.link.specs.Refusals.{answered, first_refusal, left, unless, Accepted}
 use Rattle.link.specs.Rows.{RowShape, shape_of, row_answer, row_bound, row_left, row_pixel, row_pixels, row_refusal, Delivers}
 use Rattle.link.specs.Runs.{Log, Reached, EveryRunUpholds}

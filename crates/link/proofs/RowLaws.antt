@@ -10,7 +10,7 @@ use Rattle.meaning.specs.Stages.{Meaning, Lawful}
 use Rattle.meaning.proofs.Nearness.{over_more, over_add, near_range, valid_whole}
 use Rattle.link.specs.declared.refusal.Refusal.{Refusal}
 use Rattle.link.specs.Refusals.{answered, left, Accepted}
-use Rattle.link.specs.Kinds.{Kind, LawfulKind}
+use Rattle.meaning.specs.Kinds.{Kind, LawfulKind}
 use Rattle.link.specs.Rows.{row_bound, row_pixel, row_pixels, Within, Delivers}
 
 -- a bound in grains, both ways, is one on the distance

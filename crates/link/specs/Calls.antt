@@ -15,7 +15,7 @@ use Rattle.link.specs.declared.state.Event.{Event}
 use Rattle.link.specs.declared.state.Event.TheVariants.{Fill, LinkRow, Write}
 use Rattle.link.specs.declared.state.State.{State}
 use Rattle.link.specs.declared.state.State.TheVariants.{Empty, Filling, Full}
-use Rattle.link.specs.Kinds.{Kind}
+use Rattle.meaning.specs.Kinds.{Kind}
 use Rattle.link.specs.Refusals.{unless, first_refusal, answered, left}
 use Rattle.link.specs.Rows.{RowShape, shape_of, row_checks, row_bound, row_pixels}
 use Rattle.link.specs.States.{fill_count, grid_points, link_grid, state_refusal}

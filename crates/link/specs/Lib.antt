@@ -1,6 +1,4 @@
-pub mod Kinds
 pub mod Pixels
-pub mod PixelLaws
 pub mod Refusals
 pub mod Rows
 pub mod Walks

@@ -1,27 +1,12 @@
 -- The pixel kinds: gray, RGB and CMYK over any width of a channel, and the four that programs use.
-use Rattle.std.specs.Prelude.{ℕ, ◌-◌, List, [], ◌∷◌, ◌++◌, map, length, replicate}
+use Rattle.std.specs.Prelude.{ℕ, List, [], ◌∷◌}
 use Rattle.meaning.specs.declared.Channels.{Channels}
 use Rattle.meaning.specs.declared.Channels.TheVariants.{One, Three, Four}
-use Rattle.meaning.specs.Colours.{channels, at}
-use Rattle.stage.specs.Samples.{Width, eight_bits, sixteen_bits, shown_count}
+use Rattle.meaning.specs.Kinds.{Kind, stored}
+use Rattle.meaning.specs.Samples.{Width, eight_bits, sixteen_bits}
 use Rattle.link.specs.declared.pixel.Gray.{Gray}
 use Rattle.link.specs.declared.pixel.Rgb.{Rgb}
 use Rattle.link.specs.declared.pixel.Cmyk.{Cmyk}
-use Rattle.link.specs.Kinds.{Kind}
-
--- the channels that follow are 0
-abbrev pub padded : List ℕ → List ℕ
-padded cs = cs ++ replicate (channels - length cs) 0
-
--- a kind whose samples are all of one width: a pixel's samples in the order of the channels, and the pixel of which
--- channel k holds a given sample
-abbrev pub stored : {S P : Type 0} → Channels → Width S → (P → List S) → ((ℕ → S) → P) → Kind P
-stored n w samples pixel = record {
-  channels = n;
-  shown = λ p. padded (map (shown_count w) (samples p));
-  made = λ c. pixel (λ k. w.nearest (at c k));
-  error = w.error;
-}
 
 -- a pixel's samples in the order of the channels, and the pixel of given samples: gray
 abbrev pub gray_samples : {S : Type 0} → Gray S → List S

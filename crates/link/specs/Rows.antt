@@ -6,7 +6,7 @@ use Rattle.meaning.specs.Distances.{gap}
 use Rattle.meaning.specs.Stages.{Meaning}
 use Rattle.link.specs.declared.refusal.Refusal.{Refusal}
 use Rattle.link.specs.declared.refusal.Refusal.TheVariants.{RowLengths, PixelChannels}
-use Rattle.link.specs.Kinds.{Kind}
+use Rattle.meaning.specs.Kinds.{Kind}
 use Rattle.link.specs.Refusals.{unless, first_refusal, answered, left}
 
 -- ---- when a row is refused

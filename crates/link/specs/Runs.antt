@@ -12,7 +12,7 @@ use Rattle.link.specs.declared.state.Event.TheVariants.{Begin, Fill, Row, LinkRo
 use Rattle.link.specs.declared.state.State.{State}
 use Rattle.link.specs.declared.state.State.TheVariants.{Empty, Full}
 use Rattle.link.specs.Calls.{numbers_of, begin_refusal, fill_refusal, filled_table, link_row_refusal, link_row_answer, link_row_left, write_refusal}
-use Rattle.link.specs.Kinds.{Kind}
+use Rattle.meaning.specs.Kinds.{Kind}
 use Rattle.link.specs.Refusals.{left, Accepted}
 use Rattle.link.specs.Rows.{RowShape, row_refusal, row_answer, row_left, Delivers}
 use Rattle.link.specs.States.{next_state}

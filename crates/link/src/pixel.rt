@@ -1,8 +1,10 @@
 // Pixel kinds: how a pixel shows a colour, and how one is made from a colour.
-ghost use Rattle.std.specs.Prelude.{◌≡◌};
-ghost use Rattle.link.specs.Kinds.{Kind, LawfulKind};
+ghost use Rattle.std.specs.Prelude.{◌≡◌, refl};
+ghost use Rattle.meaning.specs.Kinds.{Kind, LawfulKind};
 ghost use Rattle.link.specs.Pixels.{gray, rgb, cmyk, gray8, rgb8, cmyk8, rgb16};
-ghost use Rattle.link.specs.PixelLaws.{gray_lawful, rgb_lawful, cmyk_lawful};
+ghost use Rattle.link.specs.Pixels.{gray_samples, gray_of, rgb_samples, rgb_of, cmyk_samples, cmyk_of};
+ghost use Rattle.meaning.proofs.KindLaws.{stored_lawful};
+ghost use Rattle.meaning.specs.declared.Channels.TheVariants.{One, Three, Four};
 
 use meaning::Channels;
 use stage::{Colour, Sample};
@@ -75,7 +77,7 @@ pub fn named_kinds()
 impl<S: Sample> Pixel for Gray<S> {
     ghost kind = { gray S.width };
 
-    ghost lawful = { gray_lawful S.lawful };
+    ghost lawful = { stored_lawful One S.width gray_samples gray_of S.lawful (λ _. refl) (λ _. refl) };
 
     fn channels() -> Channels {
         Channels::One
@@ -99,7 +101,7 @@ impl<S: Sample> Pixel for Gray<S> {
 impl<S: Sample> Pixel for Rgb<S> {
     ghost kind = { rgb S.width };
 
-    ghost lawful = { rgb_lawful S.lawful };
+    ghost lawful = { stored_lawful Three S.width rgb_samples rgb_of S.lawful (λ _. refl) (λ _. refl) };
 
     fn channels() -> Channels {
         Channels::Three
@@ -125,7 +127,7 @@ impl<S: Sample> Pixel for Rgb<S> {
 impl<S: Sample> Pixel for Cmyk<S> {
     ghost kind = { cmyk S.width };
 
-    ghost lawful = { cmyk_lawful S.lawful };
+    ghost lawful = { stored_lawful Four S.width cmyk_samples cmyk_of S.lawful (λ _. refl) (λ _. refl) };
 
     fn channels() -> Channels {
         Channels::Four

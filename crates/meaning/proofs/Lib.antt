@@ -12,6 +12,7 @@ pub mod LatticeLaws
 pub mod Digits
 pub mod Baking
 pub mod SampleLaws
+pub mod KindLaws
 pub mod LimitLaws
 pub mod Means
 pub mod LinkLaws

@@ -6,6 +6,7 @@ pub mod Curves
 pub mod Lattices
 pub mod Matrices
 pub mod Samples
+pub mod Kinds
 pub mod Limits
 pub mod Links
 pub mod WorkedFigures

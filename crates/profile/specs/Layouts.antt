@@ -11,7 +11,7 @@ use Rattle.meaning.proofs.LatticeLaws.{lattices_lawful}
 use Rattle.meaning.proofs.MatrixLaws.{matrix_lawful}
 use Rattle.stage.specs.declared.matrix.Matrix.{Matrix}
 use Rattle.stage.specs.Entries.{wide}
-use Rattle.stage.specs.Samples.{eight_bits}
+use Rattle.meaning.specs.Samples.{eight_bits}
 use Rattle.profile.specs.declared.element.Kind.{Kind}
 use Rattle.profile.specs.declared.element.Kind.TheVariants.{Lut8, Lut16}
 

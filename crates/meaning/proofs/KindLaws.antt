@@ -1,4 +1,4 @@
--- The pixel kinds keep the laws, over any width that keeps its own: shown once for all kinds. Assumes nothing.
+-- A pixel kind whose samples are all of one width keeps the laws, if the width does: shown once for all kinds. Assumes nothing.
 use Rattle.std.specs.Prelude.{◌≡◌, ℕ, ◌<◌, ◌≤◌, List, map, length, refl}
 use Rattle.std.proofs.Common.{get_or, sym, ap, ◌∙◌, ⊎_elim, arith}
 use Rattle.std.specs.List.{range_with_len}
@@ -8,10 +8,9 @@ use Rattle.std.proofs.lemmas.Bool.{cases_lt}
 use Rattle.std.proofs.lemmas.Grind.{common_steps}
 use Rattle.meaning.specs.declared.Channels.{Channels}
 use Rattle.meaning.specs.Colours.{channels, number, at}
+use Rattle.meaning.specs.Kinds.{LawfulKind, padded, stored}
+use Rattle.meaning.specs.Samples.{Width, LawfulWidth, shown_count}
 use Rattle.meaning.proofs.Channelwise.{number_limit}
-use Rattle.stage.specs.Samples.{Width, LawfulWidth, shown_count, eight_bits_lawful, sixteen_bits_lawful}
-use Rattle.link.specs.Kinds.{LawfulKind}
-use Rattle.link.specs.Pixels.{padded, stored, gray, rgb, cmyk, gray8, rgb8, cmyk8, rgb16, gray_samples, gray_of, rgb_samples, rgb_of, cmyk_samples, cmyk_of}
 
 length_padded : (cs : List ℕ) → length cs ≤ channels → length (padded cs) ≡ channels
 length_padded cs h = simp (length-append, length-replicate) (omega arith)
@@ -51,7 +50,7 @@ module _ {S P : Type 0} (n : Channels) (w : Width S) (samples : P → List S) (p
       made_at (padded (counts p)) k l
       ∙ rw (padded_at (counts p) k, count_at p k l) (laws.back (get_or (samples p) k (w.nearest 0))))
 
-  stored_lawful : LawfulKind (stored n w samples pixel)
+  pub stored_lawful : LawfulKind (stored n w samples pixel)
   stored_lawful = record {
     error_limit = laws.error_limit;
     shows = λ p. record {
@@ -67,26 +66,3 @@ module _ {S P : Type 0} (n : Channels) (w : Width S) (samples : P → List S) (p
     close = λ c h k l. rw (padded_at (counts (made c)) k, made_at c k l) (laws.close (at c k) (h.within k));
     back = λ p. ap padded (same_counts p);
   }
-
--- what the width keeps, each kind over it keeps
-pub gray_lawful : {S : Type 0} {w : Width S} → LawfulWidth w → LawfulKind (gray w)
-gray_lawful {S} {w} laws = stored_lawful _ w gray_samples gray_of laws (λ p. refl) (λ f. refl)
-
-pub rgb_lawful : {S : Type 0} {w : Width S} → LawfulWidth w → LawfulKind (rgb w)
-rgb_lawful {S} {w} laws = stored_lawful _ w rgb_samples rgb_of laws (λ p. refl) (λ f. refl)
-
-pub cmyk_lawful : {S : Type 0} {w : Width S} → LawfulWidth w → LawfulKind (cmyk w)
-cmyk_lawful {S} {w} laws = stored_lawful _ w cmyk_samples cmyk_of laws (λ p. refl) (λ f. refl)
-
--- the four that programs use
-pub gray8_lawful : LawfulKind gray8
-gray8_lawful = gray_lawful eight_bits_lawful
-
-pub rgb8_lawful : LawfulKind rgb8
-rgb8_lawful = rgb_lawful eight_bits_lawful
-
-pub cmyk8_lawful : LawfulKind cmyk8
-cmyk8_lawful = cmyk_lawful eight_bits_lawful
-
-pub rgb16_lawful : LawfulKind rgb16
-rgb16_lawful = rgb_lawful sixteen_bits_lawful
