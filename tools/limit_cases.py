@@ -730,10 +730,17 @@ def chain_lengths():
         yield chain_line(files, JUNK, (FULL,) * 4)
 
 
-def long_chains():
-    """Chains of more profiles than any list of chains made by hand: all are opened, and all count."""
+def chains_of_every_length():
+    """From 1 to 34 profiles, more than any list of chains made by hand: all are opened, and the error tells how many."""
+    there = between(RGB, LAB, straight16, curve=(500, 65000))
+    back = between(LAB, RGB, straight16, matrix=SWAP, curve=(FULL, 0))
+    for count in range(1, 35):
+        yield chain_line(([there, back] * 17)[:count], JUNK, (FULL,) * 4)
+
+
+def long_chains_that_do_not_fit():
+    """Behind so many profiles one that does not begin where the last of them ends."""
     for count in (5, 8, 9, 17, 33):
-        yield chain_line([of_channels(even16, 1, 1)] * count, JUNK, (FULL,) * 4)
         yield chain_line([of_channels(even16, 1, 1)] * count + [between(RGB, GRAY)])
 
 
@@ -1150,6 +1157,8 @@ def shapes_out_of_range():
     """How many profiles a chain has; how many tables and entries a curve has; channels and grid points of a lattice."""
     for line in ("chain 0 0", "conv 0 0 0", "chain 1 0", "chain 2 A2B0 - 0", "conv 2 A2B0 - 0 0"):
         yield line
+    for line in ("chain 0", "chain 0 1 1 2 3 4", "conv 0", "conv 0 9 0 Q"):
+        yield line
     for channels in range(7):
         yield request("curve", channels, 2, *[0, 1] * channels, *colour_tokens([JUNK]))
         yield lattice_line(channels, 1, 2, [0] * 2 ** channels, JUNK)
@@ -1232,8 +1241,8 @@ GROUPS = {
         lattice_last_nodes, lattice_of_four_channels, four_channels_rounded_once, largest_sums, lattice_steepness,
     ),
     "chains": (
-        chain_lengths, long_chains, there_and_back, faults_at_positions, misfits, misfits_of_equal_channels, fault_and_misfit,
-        mixed_types, joined_errors, joined_steepness,
+        chain_lengths, chains_of_every_length, long_chains_that_do_not_fit, there_and_back, faults_at_positions, misfits,
+        misfits_of_equal_channels, fault_and_misfit, mixed_types, joined_errors, joined_steepness,
     ),
     "converter": (
         begin_grids, begin_tables, fill_budgets, filled_in_parts, node_counts, begin_again, begin_refusals, fill_refusals,

@@ -219,7 +219,7 @@ class CExample:
         ran = run([self.top / "examples" / "c" / "run"], self.top)
         if "was not built" in ran.said:
             raise Unfit("the static library is not built with it")
-        return None if ran.status == 0 else "by the output of the example in C"
+        return None if ran.status == 0 else "by the example in C"
 
 
 class Copy:

@@ -11,6 +11,9 @@
 
 #include "newtwolfram.h"
 
+/* The function once more, by the types that the library has: a header that says otherwise is not compiled. */
+uint32_t newtwolfram_convert(const uint8_t *profile, size_t length, uint16_t colour[4]);
+
 enum {
     CHANNELS = 4,
     RECORD = 132,        /* behind the header of 128 bytes and the number of records */
