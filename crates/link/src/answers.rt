@@ -1,10 +1,11 @@
 // What the calls of a converter answer.
+use meaning::Faithful;
 
 // What a fill did, in nodes.
 #[derive(Clone, Copy, PartialEq, Eq, Debug)]
 pub struct Filled {
     pub stored: usize,
-    // Still missing behind it.
+    // Still missing after it.
     pub missing: usize,
 }
 
@@ -15,4 +16,20 @@ pub struct Quote {
     pub stage: u32,
     // Of the link's, if there is a link.
     pub link: Option<u32>,
+}
+
+impl Faithful for Filled {
+    ghost use Rattle.std.proofs.Common.{rules};
+
+    ghost equal = { Prim.search rules };
+
+    ghost copied = { Prim.search rules };
+}
+
+impl Faithful for Quote {
+    ghost use Rattle.std.proofs.Common.{rules};
+
+    ghost equal = { Prim.search rules };
+
+    ghost copied = { Prim.search rules };
 }

@@ -6,7 +6,7 @@ ghost use Rattle.link.specs.Pixels.{gray_samples, gray_of, rgb_samples, rgb_of, 
 ghost use Rattle.meaning.proofs.KindLaws.{stored_lawful};
 ghost use Rattle.meaning.specs.declared.Channels.TheVariants.{One, Three, Four};
 
-use meaning::Channels;
+use meaning::{Channels, Faithful};
 use stage::{Colour, Sample};
 
 // A pixel kind. Its pixels are plain values.
@@ -154,4 +154,28 @@ impl<S: Sample> Pixel for Cmyk<S> {
             black: S::nearest(colour[3]),
         }
     }
+}
+
+impl<S: Faithful> Faithful for Gray<S> {
+    ghost use Rattle.std.proofs.Common.{rules};
+
+    ghost equal = { Prim.search rules };
+
+    ghost copied = { Prim.search rules };
+}
+
+impl<S: Faithful> Faithful for Rgb<S> {
+    ghost use Rattle.std.proofs.Common.{rules};
+
+    ghost equal = { Prim.search rules };
+
+    ghost copied = { Prim.search rules };
+}
+
+impl<S: Faithful> Faithful for Cmyk<S> {
+    ghost use Rattle.std.proofs.Common.{rules};
+
+    ghost equal = { Prim.search rules };
+
+    ghost copied = { Prim.search rules };
 }

@@ -2,6 +2,7 @@
 ghost use Rattle.std.specs.Prelude.{◌≡◌, Some};
 ghost use Rattle.link.specs.Refusals.{number_of, sentence_of};
 
+use meaning::Faithful;
 use std::fmt;
 
 #[derive(Clone, Copy, PartialEq, Eq, Debug)]
@@ -64,4 +65,12 @@ impl fmt::Display for Refusal {
     fn fmt<W: fmt::Write>(&self, f: &mut fmt::Formatter<W>) -> fmt::Result {
         f.write_str(self.sentence())
     }
+}
+
+impl Faithful for Refusal {
+    ghost use Rattle.std.proofs.Common.{rules};
+
+    ghost equal = { Prim.search rules };
+
+    ghost copied = { Prim.search rules };
 }

@@ -6,7 +6,7 @@ ghost use Rattle.link.specs.declared.state.State.TheVariants.{Filling};
 
 use crate::answers::Filled;
 use crate::refusal::Refusal;
-use meaning::Channels;
+use meaning::{Channels, Faithful};
 use stage::{Grid, lattice_nodes};
 
 // A converter's link.
@@ -128,4 +128,12 @@ impl State {
             (State::Filling { .. }, Event::LinkRow | Event::Write) => Err(Refusal::FillingLink),
         }
     }
+}
+
+impl Faithful for State {
+    ghost use Rattle.std.proofs.Common.{rules};
+
+    ghost equal = { Prim.search rules };
+
+    ghost copied = { Prim.search rules };
 }

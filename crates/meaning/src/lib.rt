@@ -4,7 +4,7 @@
 // that cannot come.
 #![tactic(auto)]
 
-ghost use Rattle.std.specs.Prelude.{◌≡◌, ◌*◌, ◌==◌, ◌↔◌, IsOkAnd, IsTrue, None, Some};
+ghost use Rattle.std.specs.Prelude.{◌≡◌, ◌*◌, ◌==◌, None, Some};
 ghost use Rattle.std.specs.Prelude.{if◌then◌else◌};
 ghost use Rattle.meaning.specs.Colours.{ceiling, half_count, number};
 ghost use Rattle.meaning.specs.Curves.{CurvesKeepTheLaws, steepness_of_curve};
@@ -17,7 +17,9 @@ ghost use Rattle.meaning.specs.Stages.{error_of_joined, steepness_of_joined, unc
 ghost use Rattle.meaning.specs.WorkedFigures.{WorkedFigures, cube_figures, fading_figures, figures};
 ghost use Rattle.meaning.specs.WorkedFigures.{link_figures};
 
-use std::alloc::AllocError;
+pub mod faithful;
+
+pub use faithful::Faithful;
 
 // The channels of a colour.
 pub const CHANNELS: usize = 4;
@@ -57,14 +59,6 @@ impl Channels {
             Channels::Four => 4,
         }
     }
-}
-
-// Names what `==` and `clone` say: a clone of the second equals the first where both are the same,
-// and nowhere else. So no two are equal, and a clone is its original.
-fn equals_clone(first: Channels, second: &Channels) -> Result<bool, AllocError>
-    ensures { IsOkAnd result (λ equal. IsTrue equal ↔ (first ≡ second.now)) }
-{
-    Ok(first == second.clone()?)
 }
 
 // Names the theorem: two stages that keep the laws keep them joined.

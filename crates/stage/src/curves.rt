@@ -1,5 +1,5 @@
 // Tone curves: one table of counts for each channel, with the answer interpolated between entries.
-ghost use Rattle.std.specs.Prelude.{◌≡◌, ◌↔◌, ◌-◌, ◌*◌, ◌<◌, ◌≤◌, IsOkAnd, IsTrue};
+ghost use Rattle.std.specs.Prelude.{◌≡◌, ◌-◌, ◌*◌, ◌<◌, ◌≤◌};
 ghost use Rattle.meaning.proofs.CurveLaws.{curves_lawful};
 ghost use Rattle.meaning.specs.Colours.{rounded};
 ghost use Rattle.meaning.specs.Curves.{curves};
@@ -11,8 +11,7 @@ use crate::entries::Entries;
 use crate::folding::{colour_of, largest};
 use crate::traits::{Colour, Stage};
 use crate::weighing::{SAMPLES, blend, nearest};
-use meaning::{Channels, HALF_COUNT, table_steepness};
-use std::alloc::AllocError;
+use meaning::{Channels, Faithful, HALF_COUNT, table_steepness};
 
 // How many entries each table of curves has: 2 to 4,096.
 #[derive(Clone, Copy, PartialEq, Eq, Debug)]
@@ -35,12 +34,12 @@ impl TableLength {
     }
 }
 
-// Names what `==` and `clone` say: a clone of the second equals the first where both are the same,
-// and nowhere else. So no two lengths are equal, and a clone is its original.
-fn equals_clone(first: TableLength, second: &TableLength) -> Result<bool, AllocError>
-    ensures { IsOkAnd result (λ equal. IsTrue equal ↔ (first ≡ second.now)) }
-{
-    Ok(first == second.clone()?)
+impl Faithful for TableLength {
+    ghost use Rattle.std.proofs.Common.{rules};
+
+    ghost equal = { Prim.search rules };
+
+    ghost copied = { Prim.search rules };
 }
 
 // Curves over 1, 3 or 4 channels. The tables of `length` entries lie one after the other; how many

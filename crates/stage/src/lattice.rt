@@ -1,5 +1,5 @@
 // Lattices of nodes over 1, 3 or 4 channels, with the answer interpolated in tetrahedra.
-ghost use Rattle.std.specs.Prelude.{◌≡◌, ◌↔◌, ◌-◌, ◌*◌, ◌^◌, ◌<◌, ◌≤◌, IsOkAnd, IsTrue};
+ghost use Rattle.std.specs.Prelude.{◌≡◌, ◌-◌, ◌*◌, ◌^◌, ◌<◌, ◌≤◌};
 ghost use Rattle.meaning.proofs.LatticeLaws.{lattices_lawful};
 ghost use Rattle.meaning.specs.Colours.{number, nearest};
 ghost use Rattle.meaning.specs.Lattices.{lattice, entries_of_lattice};
@@ -11,8 +11,7 @@ use crate::entries::Entries;
 use crate::folding::colour_of;
 use crate::legs::{IDLE, Leg, Legs};
 use crate::traits::{Colour, Stage};
-use meaning::{Channels, HALF_COUNT, table_steepness};
-use std::alloc::AllocError;
+use meaning::{Channels, Faithful, HALF_COUNT, table_steepness};
 
 // How many points a lattice has along each in-channel: 2 to 255.
 #[derive(Clone, Copy, PartialEq, Eq, Debug)]
@@ -33,12 +32,12 @@ impl Grid {
     }
 }
 
-// Names what `==` and `clone` say: a clone of the second equals the first where both are the same,
-// and nowhere else. So no two grids are equal, and a clone is its original.
-fn equals_clone(first: Grid, second: &Grid) -> Result<bool, AllocError>
-    ensures { IsOkAnd result (λ equal. IsTrue equal ↔ (first ≡ second.now)) }
-{
-    Ok(first == second.clone()?)
+impl Faithful for Grid {
+    ghost use Rattle.std.proofs.Common.{rules};
+
+    ghost equal = { Prim.search rules };
+
+    ghost copied = { Prim.search rules };
 }
 
 // A lattice of `grid` points in each in-channel. From one node of the table to the next the last
