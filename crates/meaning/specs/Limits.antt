@@ -16,5 +16,7 @@ pub record LimitsNeverAct : Type 0 where
   pub sixteen : (v : ℕ) → v < 2 ^ 16 → shown_count sixteen_bits v ≡ sixteen_bits.count v
   -- whatever the entries are, curves with tables of 2 to 4,096 of them rise by less than 2^30, and so do lattices whose
   -- grid points a `u8` can count
-  pub curves : (w : Channels) (n : ℕ) (counts : List ℕ) → IsTrue (is_table_length n) → rise n (largest_curve_step w n counts) < unclaimed
-  pub lattices : (i o : Channels) (g : ℕ) (counts : List ℕ) → g < 2 ^ 8 → rise g (lattice_step i o g counts) < unclaimed
+  pub curves : (w : Channels) (n : ℕ) (counts : List ℕ) → IsTrue (is_table_length n) →
+      rise n (largest_curve_step w n counts) < unclaimed
+  pub lattices : (i o : Channels) (g : ℕ) (counts : List ℕ) → g < 2 ^ 8 →
+      rise g (lattice_step i o g counts) < unclaimed

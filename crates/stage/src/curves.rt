@@ -109,7 +109,8 @@ impl<E: Entries> Curves<E> {
 }
 
 impl<E: Entries> Curve<'_, E> {
-    // The entry at `index` of the table.
+    // The entry at `index` of the table. Indices and positions are limited, here and below, so that
+    // the entry and the one after it have a place.
     fn entry(&self, index: usize) -> u16
         requires { index ≤ 65536 }
         ensures { let curves = self.now.curves.now in

@@ -178,7 +178,7 @@ impl<E: Entries> Lattice<E> {
     }
 
     // The sum of all samples, with places counted from `place`: the four corners of a tetrahedron,
-    // weighed.
+    // weighed. The limit on `place` is that of the corners.
     pub(crate) fn tetrahedron(&self, legs: &Legs, place: usize) -> u32
         requires { place ≤ 2 ^ 42 }
         ensures value { let entry = lattice_entry E.Entries.counts self.now in

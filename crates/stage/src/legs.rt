@@ -99,7 +99,7 @@ impl Legs {
         }
     }
 
-    // The places of the four corners, counted from `place`.
+    // The places of the four corners, counted from `place`, which is limited so that they have one.
     pub(crate) fn corners(&self, place: usize) -> [usize; 4]
         requires { place ≤ 2 ^ 42 }
         ensures places { result ≡ corners_from self.now place }
