@@ -10,14 +10,16 @@ pub mod fault;
 pub mod header;
 pub mod opening;
 mod reading;
+pub mod same;
 mod sentences;
 pub mod space;
 pub mod tag;
 
-pub use chain::{ChainError, ElementChain, Report, Source, open_chain};
+pub use chain::{ChainError, ChainRoom, ElementChain, Report, Source, open_chain};
 pub use element::{Element, Kind, Part, Tables};
 pub use fault::{Fault, Layer};
 pub use header::Header;
 pub use opening::{Opened, open};
+pub use same::Same;
 pub use space::Space;
 pub use tag::Tag;
