@@ -24,7 +24,7 @@ module _ (first : Source) (rest : List Source) where
         let start = begun (offered first) in
         ap (fold joined_on start) (take_more rest i d l) ∙ fold-append joined_on start (take i rest) (get_or rest i d ∷ [])
 
-    -- what is answered is what the profiles up to one and then those behind it give
+    -- what is answered is what the profiles up to one and then those after it give
     split : opened_chain first rest ≡ fold joined_on (joined_on (opened_chain first (take i rest)) (get_or rest i d)) (drop (i + 1) rest)
     split =
         let start = begun (offered first) in

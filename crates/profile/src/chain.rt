@@ -71,7 +71,7 @@ impl<'a> Source<'a> {
 // Room for a chain of so many profiles: memory that is set aside before any of them is looked at.
 #[derive(Drop)]
 pub struct ChainRoom<'a> {
-    // That of the elements behind the first one.
+    // That of the elements after the first one.
     rest: Vec<Element<'a>>,
     profiles: usize,
 }
@@ -99,11 +99,11 @@ impl<'a> ChainRoom<'a> {
         Ok(ChainRoom { rest, profiles })
     }
 
-    // Whether it is large enough for one profile and so many behind it.
-    fn suffices(&self, behind: usize) -> bool
-        ensures { result ≡ nat_lt behind self.now }
+    // Whether it is large enough for one profile and so many after it.
+    fn suffices(&self, further: usize) -> bool
+        ensures { result ≡ nat_lt further self.now }
     {
-        behind < self.profiles
+        further < self.profiles
     }
 
     // The chain of one profile, with room for the others.

@@ -1,13 +1,15 @@
-// Values whose equality is sameness: no part of them is left out of it.
+// Values that `==` compares, and `clone` copies, with all their parts.
 ghost use Rattle.std.specs.Prelude.{◌≡◌, true};
 ghost use Rattle.std.proofs.Common.{rules};
 
 use crate::chain::{ChainError, Report};
+use crate::element::Kind;
 use crate::fault::{Fault, Layer};
 use crate::header::Header;
 use crate::space::Space;
+use crate::tag::Tag;
 
-// Two values that are equal are the same.
+// Values that are equal are the same, and a copy is the same as what it was made from.
 pub trait Same: Eq + Clone {
     ghost equal: { (a b : Self) → Self.eq a b ≡ true → a ≡ b };
 
@@ -45,6 +47,18 @@ impl Same for Fault {
 }
 
 impl Same for ChainError {
+    ghost equal = { Prim.search rules };
+
+    ghost copied = { Prim.search rules };
+}
+
+impl Same for Tag {
+    ghost equal = { Prim.search rules };
+
+    ghost copied = { Prim.search rules };
+}
+
+impl Same for Kind {
     ghost equal = { Prim.search rules };
 
     ghost copied = { Prim.search rules };

@@ -3,7 +3,7 @@ use Rattle.profile.specs.Chaining.{next_position, opened_chain}
 use Rattle.profile.specs.ChainViews.{chain_view, room_left}
 use Rattle.profile.proofs.chain.open_all.Given as goal
 
--- the profiles so far are opened, as many as there were turns behind the first, and there is room for the others
+-- the profiles so far are opened, one more than there were turns, and there is room for the others
 abbrev pub invariant-loop-source : goal.invariant-loop-source
 invariant-loop-source l =
     record {
