@@ -1,7 +1,8 @@
 // The profiles that a job names: their files, and what is said where they cannot be opened.
 use crate::job::ProfileTask;
 use anyhow::{Context, bail};
-use profile::{ChainError, ElementChain, Report, Source, open_chain};
+use profile::{ChainError, ChainRoom, ElementChain, Report, Source, open_chain};
+use std::alloc::Global;
 use std::{fmt, fs};
 
 // Why profiles are not opened, as a sentence.
@@ -48,6 +49,16 @@ pub(crate) fn files_of(
     Ok(files)
 }
 
+// The chain of one profile and those behind it. Where memory for it is wanting, there is no room.
+fn chain_of<'a>(
+    heap: Global,
+    first: &Source<'a>,
+    rest: &[Source<'a>],
+) -> Result<ElementChain<'a>, NotOpened> {
+    let room = ChainRoom::new(heap, rest.len() + 1).map_err(|_| NotOpened(ChainError::Room))?;
+    open_chain(room, first, rest).map_err(NotOpened)
+}
+
 // The chain of the profiles, or a sentence that says which fault which of them has.
 pub(crate) fn opened<'a>(
     rt: &HostRuntime,
@@ -65,10 +76,9 @@ pub(crate) fn opened<'a>(
         .as_slice()
         .split_first()
         .context("a chain has one profile or more")?;
-    match open_chain(rt.alloc(), first, rest) {
+    match chain_of(rt.alloc(), first, rest) {
         Ok(chain) => Ok(chain),
         Err(error) => {
-            let error = NotOpened(error);
             println!(rt; "  not opened, {error}")?;
             bail!("the profiles were not opened")
         }

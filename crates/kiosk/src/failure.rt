@@ -66,10 +66,6 @@ pub(crate) enum Failure<'a> {
         behind: &'a str,
         takes: Space,
     },
-    #[error("{profile}: there is not enough memory")]
-    ProfileMemory {
-        profile: &'a str,
-    },
     #[error("the profiles make no chain")]
     NoChain,
     #[error("{path}: {bad}")]

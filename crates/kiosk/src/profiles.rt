@@ -1,6 +1,7 @@
 // The profiles that a call names: their files, and their chain, or what is wrong with one of them.
 use crate::failure::{Failure, Told};
-use profile::{ChainError, ElementChain, Source, Tag, open, open_chain};
+use profile::{ChainError, ChainRoom, ElementChain, Source, Tag, open, open_chain};
+use std::alloc::AllocError;
 use std::fs;
 
 // An element of a profile, as the call names it.
@@ -76,9 +77,7 @@ fn failure_of<'a>(profiles: &[Named<'a>], files: &[Vec<u8>], error: ChainError) 
         ChainError::Spaces { position } => {
             apart(profiles, files, position).unwrap_or(Failure::NoChain)
         }
-        ChainError::Memory { position } => Failure::ProfileMemory {
-            profile: text_at(profiles, position),
-        },
+        ChainError::Room => Failure::Memory(AllocError),
     }
 }
 
@@ -98,5 +97,6 @@ pub(crate) fn opened<'f, 'a>(
     let Some((first, rest)) = sources.as_slice().split_first() else {
         return Err(Failure::NoChain);
     };
-    open_chain(rt.alloc(), first, rest).map_err(|error| failure_of(profiles, files, error))
+    let room = ChainRoom::new(rt.alloc(), sources.len())?;
+    open_chain(room, first, rest).map_err(|error| failure_of(profiles, files, error))
 }

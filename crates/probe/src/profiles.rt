@@ -1,7 +1,7 @@
 // Profiles of a request: opened alone or as a chain, or the fault that is answered in their place.
 use crate::stages::stage_answer;
 use crate::words::{Unread, Words};
-use profile::{ChainError, ElementChain, Fault, Source, Tag, open, open_chain};
+use profile::{ChainError, ChainRoom, ElementChain, Fault, Source, Tag, open, open_chain};
 use stage::{Colour, Rated};
 use std::alloc::{AllocError, Global};
 
@@ -24,6 +24,27 @@ impl Profile {
             bytes: self.bytes.as_slice(),
             tag: self.tag,
         }
+    }
+}
+
+// One profile or more.
+#[derive(Drop)]
+pub(crate) struct Profiles {
+    first: Profile,
+    rest: Vec<Profile>,
+}
+
+impl Profiles {
+    // So many as the first word says, which is one or more.
+    pub(crate) fn read(heap: Global, words: &mut Words<'_>) -> Result<Profiles, Unread> {
+        let count = words.number::<usize>()?;
+        let behind = count.checked_sub(1).ok_or(Unread::Bad)?;
+        let first = Profile::read(heap, words)?;
+        let mut rest = Vec::new(heap);
+        for _ in 0..behind {
+            rest.push(Profile::read(heap, words)?)?;
+        }
+        Ok(Profiles { first, rest })
     }
 }
 
@@ -55,28 +76,27 @@ pub(crate) fn chain_refused(heap: Global, error: ChainError) -> Result<String, A
             Ok(text)
         }
         ChainError::Spaces { position } => format!(in heap; "fault 13 - - {position}"),
-        ChainError::Memory { .. } => Err(AllocError),
+        ChainError::Room => Err(AllocError),
     }
 }
 
-// The chain of one profile or more, opened or refused.
+// The chain of the profiles, opened or refused.
 pub(crate) fn chain_of<'a>(
     heap: Global,
-    profiles: &'a [Profile],
+    profiles: &'a Profiles,
 ) -> Result<Result<ElementChain<'a>, ChainError>, AllocError> {
-    let sources: Vec<Source<'a>> = profiles
+    let rest: Vec<Source<'a>> = profiles
+        .rest
         .iter()
         .map(|profile| profile.source())
         .collect(heap)?;
-    match sources.as_slice().split_first() {
-        Some((first, rest)) => Ok(open_chain(heap, first, rest)),
-        None => Ok(Err(ChainError::Memory { position: 0 })),
-    }
+    let room = ChainRoom::new(heap, rest.len() + 1)?;
+    Ok(open_chain(room, &profiles.first.source(), rest.as_slice()))
 }
 
 pub(crate) fn chain_answer(
     heap: Global,
-    profiles: &[Profile],
+    profiles: &Profiles,
     colours: &[Colour],
 ) -> Result<String, AllocError> {
     match chain_of(heap, profiles)? {

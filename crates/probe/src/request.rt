@@ -1,7 +1,7 @@
 // Requests, as a line's words hold them, and the answer to each.
 use crate::converter_run::ConverterRun;
 use crate::ops::Op;
-use crate::profiles::{Profile, chain_answer, chain_of, chain_refused, profile_answer};
+use crate::profiles::{Profile, Profiles, chain_answer, chain_of, chain_refused, profile_answer};
 use crate::stages::{curve_answer, lattice_answer, matrix_answer};
 use crate::words::{Unread, Words};
 use meaning::Channels;
@@ -29,7 +29,7 @@ pub(crate) struct Nodes {
 // A converter over a chain, its node table, and the calls that are made of it.
 #[derive(Drop)]
 pub(crate) struct Calls {
-    pub profiles: Vec<Profile>,
+    pub profiles: Profiles,
     pub numbers: usize,
     pub seed: u64,
     pub ops: Vec<Op>,
@@ -38,24 +38,11 @@ pub(crate) struct Calls {
 #[derive(Drop)]
 pub(crate) enum Request {
     Run(Profile, Vec<Colour>),
-    Chain(Vec<Profile>, Vec<Colour>),
+    Chain(Profiles, Vec<Colour>),
     Curve(Tables, Vec<Colour>),
     Matrix([i32; 9], Vec<Colour>),
     Lattice(Nodes, Vec<Colour>),
     Converter(Calls),
-}
-
-// One profile or more, behind how many there are.
-fn profiles(heap: Global, words: &mut Words<'_>) -> Result<Vec<Profile>, Unread> {
-    let count = words.number::<usize>()?;
-    let mut profiles = Vec::new(heap);
-    for _ in 0..count {
-        profiles.push(Profile::read(heap, words)?)?;
-    }
-    if profiles.is_empty() {
-        return Err(Unread::Bad);
-    }
-    Ok(profiles)
 }
 
 impl Tables {
@@ -89,7 +76,7 @@ impl Nodes {
 impl Calls {
     // The calls go on to the end of the line.
     fn read(heap: Global, words: &mut Words<'_>) -> Result<Calls, Unread> {
-        let profiles = profiles(heap, words)?;
+        let profiles = Profiles::read(heap, words)?;
         let numbers = words.size()?;
         let seed = words.number()?;
         let ops = Op::read_all(heap, words)?;
@@ -103,7 +90,7 @@ impl Calls {
 
     // What the calls answer, or why the chain is not opened.
     fn answer(&self, heap: Global) -> Result<String, AllocError> {
-        match chain_of(heap, self.profiles.as_slice())? {
+        match chain_of(heap, &self.profiles)? {
             Ok(chain) => ConverterRun::new(heap, chain, self)?.answers(self.ops.as_slice()),
             Err(error) => chain_refused(heap, error),
         }
@@ -125,7 +112,7 @@ impl Request {
                 Ok(Request::Run(profile, words.colours(heap)?))
             }
             "chain" => {
-                let profiles = profiles(heap, words)?;
+                let profiles = Profiles::read(heap, words)?;
                 Ok(Request::Chain(profiles, words.colours(heap)?))
             }
             "curve" => {
@@ -149,7 +136,7 @@ impl Request {
         match self {
             Request::Run(profile, colours) => profile_answer(heap, profile, colours.as_slice()),
             Request::Chain(profiles, colours) => {
-                chain_answer(heap, profiles.as_slice(), colours.as_slice())
+                chain_answer(heap, profiles, colours.as_slice())
             }
             Request::Curve(tables, colours) => curve_answer(heap, tables, colours.as_slice()),
             Request::Matrix(coefficients, colours) => {

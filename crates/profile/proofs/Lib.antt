@@ -2,3 +2,4 @@ pub mod CheckLaws
 pub mod OpeningLaws
 pub mod ChainingLaws
 pub mod PartLaws
+pub mod MeetingLaws

@@ -1,5 +1,5 @@
 -- The directory of a profile: from byte 132 on records of 12 bytes, each with a signature, an offset and a size.
-use Rattle.std.specs.Prelude.{ℕ, ◌+◌, ◌*◌, ◌&&◌, List, [], ◌∷◌, map, length, nat_le, ◌==◌, Option}
+use Rattle.std.specs.Prelude.{◌≡◌, ◌≢◌, ℕ, ◌+◌, ◌*◌, ◌<◌, ◌&&◌, List, [], ◌∷◌, map, length, nat_le, ◌==◌, Option}
 use Rattle.std.specs.List.{find, range_with_len}
 use Rattle.std.specs.Option.{is_some, unwrap_or}
 use Rattle.profile.specs.declared.fault.Fault.{Fault}
@@ -16,6 +16,10 @@ records b = word b 128
 abbrev pub records_end : List ℕ → ℕ
 records_end b = 132 + 12 * records b
 
+-- the place of record k, counted from 0
+abbrev pub record_at : ℕ → ℕ
+record_at k = 132 + 12 * k
+
 -- the places of n records, one after the other
 abbrev pub record_places : ℕ → List ℕ
 record_places n = map (λ k. 132 + 12 * k) (range_with_len 0 n)
@@ -23,6 +27,12 @@ record_places n = map (λ k. 132 + 12 * k) (range_with_len 0 n)
 -- the place of the first of n records that has the signature w
 abbrev pub first_record : List ℕ → ℕ → ℕ → Option ℕ
 first_record b w n = find (λ p. word b p == w) (record_places n)
+
+-- record k is the first of the directory that has the signature w
+pub record FirstWith (b : List ℕ) (w k : ℕ) : Type 0 where
+  pub listed : k < records b
+  pub named : word b (record_at k) ≡ w
+  pub earlier : (j : ℕ) → j < k → word b (record_at j) ≢ w
 
 -- the first record of the directory that has it
 abbrev pub search : List ℕ → ℕ → Option ℕ

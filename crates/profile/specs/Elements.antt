@@ -5,6 +5,8 @@ use Rattle.meaning.specs.declared.Channels.TheVariants.{One, Three, Four}
 use Rattle.meaning.specs.Colours.{number}
 use Rattle.meaning.specs.Lattices.{entries_of_lattice}
 use Rattle.stage.specs.declared.matrix.Matrix.{Matrix}
+use Rattle.stage.specs.Curves.{entries}
+use Rattle.stage.specs.Lattices.{points}
 use Rattle.profile.specs.declared.fault.Fault.{Fault}
 use Rattle.profile.specs.declared.fault.Fault.TheVariants.{Tables}
 use Rattle.profile.specs.declared.reading.Shape.{Shape}
@@ -15,13 +17,13 @@ use Rattle.profile.specs.Shapes.{shape_checks, shape, coefficients}
 
 -- the bytes of the input tables, of the nodes and of the output tables, which lie one behind the other
 abbrev pub input_size : Shape → ℕ
-input_size s = width s.kind * (number s.ins * s.input.0)
+input_size s = width s.kind * (number s.ins * entries s.input)
 
 abbrev pub nodes_size : Shape → ℕ
-nodes_size s = width s.kind * entries_of_lattice s.ins s.outs s.grid.0
+nodes_size s = width s.kind * entries_of_lattice s.ins s.outs (points s.grid)
 
 abbrev pub output_size : Shape → ℕ
-output_size s = width s.kind * (number s.outs * s.output.0)
+output_size s = width s.kind * (number s.outs * entries s.output)
 
 -- where the nodes and the output tables begin, and where these end
 abbrev pub nodes_start : Shape → ℕ
@@ -66,16 +68,19 @@ abbrev pub laid_out : List ℕ → ℕ → Shape → Layout
 laid_out e at s = record {
   kind = s.kind;
   matrix = matrix_of e s.ins;
-  input = record { channels = s.ins; length = s.input.0; table = input_table e at s };
-  nodes = record { ins = s.ins; outs = s.outs; grid = s.grid.0; table = nodes_table e at s };
-  output = record { channels = s.outs; length = s.output.0; table = output_table e at s };
+  input = record { channels = s.ins; length = entries s.input; table = input_table e at s };
+  nodes = record { ins = s.ins; outs = s.outs; grid = points s.grid; table = nodes_table e at s };
+  output = record { channels = s.outs; length = entries s.output; table = output_table e at s };
 }
 
 -- what an element holds
 abbrev pub layout : List ℕ → ℕ → Channels → Channels → Layout
 layout e at i o = laid_out e at (shape e i o)
 
--- what reading some bytes that are an element answers: what they hold, or the fault of the first check that fails; places
--- count from their first byte
+-- what reading an element's bytes at a place answers: what they hold, or the fault of the first check that fails
+abbrev pub element_at : List ℕ → ℕ → Channels → Channels → Result Layout Fault
+element_at e at i o = ruled (element_checks e at i o) (layout e at i o)
+
+-- and so for an element alone, where places count from its first byte
 abbrev pub element_read : List ℕ → Channels → Channels → Result Layout Fault
-element_read e i o = ruled (element_checks e 0 i o) (layout e 0 i o)
+element_read e i o = element_at e 0 i o

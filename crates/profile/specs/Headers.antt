@@ -32,7 +32,7 @@ space_at b k = unwrap_or (space_of (word b k)) Gray
 abbrev pub header : List ℕ → Header
 header b = record { colour = space_at b 16; other = space_at b 20 }
 
--- the space in front of an element, and that behind it: B2A0 goes the other way
+-- the space that an element takes, and the one that it gives: B2A0 goes the other way
 abbrev pub space_in : Header → Tag → Space
 space_in h A2B0 = h.colour
 space_in h B2A0 = h.other

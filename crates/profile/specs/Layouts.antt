@@ -52,7 +52,7 @@ curves_over k t = curves t.channels t.length (counts_of k t.table.bytes)
 abbrev pub lattice_over : Kind → NodeTable → Meaning
 lattice_over k t = lattice t.ins t.outs t.grid (counts_of k t.table.bytes)
 
--- the input curves, behind the matrix where there is one
+-- the input curves, after the matrix where there is one
 abbrev pub input_meaning : Option Matrix → Meaning → Meaning
 input_meaning (Some m) c = joined (matrix m.coefficients) c
 input_meaning None c = c

@@ -15,3 +15,4 @@ pub mod Chaining
 pub mod ChainViews
 pub mod Sentences
 pub mod Parts
+pub mod Meetings

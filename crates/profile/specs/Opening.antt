@@ -7,14 +7,14 @@ use Rattle.profile.specs.declared.space.Space.{Space}
 use Rattle.profile.specs.declared.tag.Tag.{Tag}
 use Rattle.profile.specs.Checks.{Check, ruled}
 use Rattle.profile.specs.Directories.{directory_checks, offset, size}
-use Rattle.profile.specs.Elements.{element_checks, layout}
+use Rattle.profile.specs.Elements.{element_at, element_checks, layout}
 use Rattle.profile.specs.Headers.{header_checks, header, space_in, space_out}
 use Rattle.profile.specs.Layouts.{Layout}
 use Rattle.profile.specs.Spaces.{channels_of}
 use Rattle.profile.specs.Tags.{signature}
 use Rattle.profile.specs.Views.{element_view}
 
--- an opened profile: the spaces in front of its element and behind it, and the element
+-- an opened profile: the space that its element takes, the one that it gives, and the element
 pub record Opening : Type 0 where
   pub takes : Space
   pub gives : Space
@@ -22,10 +22,7 @@ pub record Opening : Type 0 where
 
 -- what reading an element's bytes e at a place of the file answers, between the spaces of a header
 abbrev pub between : List ℕ → ℕ → Header → Tag → Result Layout Fault
-between e at h t =
-    let i = channels_of (space_in h t) in
-    let o = channels_of (space_out h t) in
-    ruled (element_checks e at i o) (layout e at i o)
+between e at h t = element_at e at (channels_of (space_in h t)) (channels_of (space_out h t))
 
 -- the element's bytes
 abbrev pub element_bytes : List ℕ → ℕ → List ℕ

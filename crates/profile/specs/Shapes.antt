@@ -5,7 +5,8 @@ use Rattle.std.specs.List.{range_with_len}
 use Rattle.std.specs.Option.{is_some, unwrap_or}
 use Rattle.meaning.specs.declared.Channels.{Channels}
 use Rattle.meaning.specs.Colours.{number}
-use Rattle.stage.specs.Curves.{table_length}
+use Rattle.stage.specs.Curves.{length_with, table_length}
+use Rattle.stage.specs.Lattices.{grid_with}
 use Rattle.profile.specs.declared.element.Kind.{Kind}
 use Rattle.profile.specs.declared.element.Kind.TheVariants as kind
 use Rattle.profile.specs.declared.fault.Fault.{Fault}
@@ -45,9 +46,9 @@ shape e i o = record {
   kind = type_of e;
   ins = i;
   outs = o;
-  grid = record { 0 = slice_index e 10 };
-  input = record { 0 = input_length e (type_of e) };
-  output = record { 0 = output_length e (type_of e) };
+  grid = grid_with (slice_index e 10);
+  input = length_with (input_length e (type_of e));
+  output = length_with (output_length e (type_of e));
 }
 
 -- coefficient k of the matrix at 12, a signed number of 32 bits

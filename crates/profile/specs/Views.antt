@@ -7,6 +7,8 @@ use Rattle.stage.specs.declared.entries.WideBytes.{WideBytes}
 use Rattle.stage.specs.declared.joined.Joined.{Joined}
 use Rattle.stage.specs.declared.lattice.Lattice.{Lattice}
 use Rattle.stage.specs.declared.matrix.Matrix.{Matrix}
+use Rattle.stage.specs.Curves.{curves_with, entries}
+use Rattle.stage.specs.Lattices.{lattice_with, points}
 use Rattle.profile.specs.declared.element.Element.{Element}
 use Rattle.profile.specs.declared.element.Element.TheVariants as element
 use Rattle.profile.specs.declared.element.Kind.{Kind}
@@ -41,16 +43,22 @@ module _ {E : Type 0} (bytes : E → List ℕ) where
   node_table l = record { ins = l.ins; outs = l.outs; grid = l.grid; table = placed_view l.table }
 
   abbrev pub lut_view : Kind → Joined (Joined (Input (Placed E)) (Lattice (Placed E))) (Curves (Placed E)) → Layout
-  lut_view k l = record { kind = k; matrix = l.first.first.matrix; input = curve_tables l.first.first.curves; nodes = node_table l.first.second; output = curve_tables l.second }
+  lut_view k l = record {
+    kind = k;
+    matrix = l.first.first.matrix;
+    input = curve_tables l.first.first.curves;
+    nodes = node_table l.first.second;
+    output = curve_tables l.second;
+  }
 
 -- the stages of an element of that shape over these entries
 abbrev pub stages_over : {E : Type 0} → Shape → Option Matrix → E → E → E → Joined (Joined (Input E) (Lattice E)) (Curves E)
 stages_over s m input nodes output = record {
   first = record {
-    first = record { matrix = m; curves = record { channels = s.ins; length = s.input.0; table = input } };
-    second = record { ins = s.ins; outs = s.outs; grid = s.grid.0; table = nodes };
+    first = record { matrix = m; curves = curves_with s.ins (entries s.input) input };
+    second = lattice_with s.ins s.outs (points s.grid) nodes;
   };
-  second = record { channels = s.outs; length = s.output.0; table = output };
+  second = curves_with s.outs (entries s.output) output;
 }
 
 abbrev pub element_view : Element → Layout

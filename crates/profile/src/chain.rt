@@ -1,18 +1,19 @@
 // Chains of profiles: their elements, opened in turn and run one after the other.
-ghost use Rattle.std.specs.Prelude.{◌≡◌, ℕ, ◌+◌, ◌≤◌, Err, IsOk, IfOk, IfErr, vec_capacity, vec_len};
-ghost use Rattle.profile.specs.declared.chain.ChainError.TheVariants.{Memory};
-ghost use Rattle.profile.specs.Chaining.{begun, lengthened, next_position, opened_chain, reported};
-ghost use Rattle.profile.specs.ChainViews.{chain_view, chain_meaning, chain_lawful, means, Answers, OpenUpTo};
-ghost use Rattle.profile.specs.Opening.{opened};
+ghost use Rattle.std.specs.Prelude.{◌≡◌, ◌+◌, ◌<◌, ◌≤◌, ◌∷◌, IsOk, IfOk, IfErr, length, nat_lt};
+ghost use Rattle.profile.specs.Chaining.{begun, lengthened, next_position, offered, opened_chain, opened_within, reported};
+ghost use Rattle.profile.specs.ChainViews.{chain_view, chain_meaning, chain_lawful, means, answered, room_left};
+ghost use Rattle.profile.specs.Meetings.{Says};
+ghost use Rattle.profile.specs.Opening.{viewed};
 
 use crate::element::Element;
 use crate::fault::Fault;
-use crate::opening::open;
+use crate::opening::{Opened, open};
 use crate::space::Space;
 use crate::tag::Tag;
 use meaning::Channels;
 use stage::{Chain, Colour, Stage};
-use std::alloc::Global;
+use std::alloc::{AllocError, Global};
+use std::marker::Model;
 
 // A profile to open: its bytes, and which element of it.
 #[derive(Clone, Copy)]
@@ -28,8 +29,8 @@ pub enum ChainError {
     Profile { position: usize, fault: Fault },
     // A profile does not take the space that the one before it gives.
     Spaces { position: usize },
-    // There is not enough memory for a profile that opens.
-    Memory { position: usize },
+    // The room is for fewer profiles. None of them was looked at.
+    Room,
 }
 
 // The number of an error, and the position of the profile that has it.
@@ -40,7 +41,7 @@ pub struct Report {
 }
 
 impl ChainError {
-    // Nothing where memory is wanting.
+    // Nothing where the room is too small.
     pub fn report(self) -> Option<Report>
         ensures { result ≡ reported self }
     {
@@ -53,8 +54,71 @@ impl ChainError {
                 number: 13,
                 position,
             }),
-            ChainError::Memory { .. } => None,
+            ChainError::Room => None,
         }
+    }
+}
+
+impl<'a> Source<'a> {
+    // Opens it.
+    fn open(&self) -> Result<Opened<'a>, Fault>
+        ensures { viewed result ≡ offered self.now }
+    {
+        open(self.bytes, self.tag)
+    }
+}
+
+// Room for a chain of so many profiles: memory that is set aside before any of them is looked at.
+#[derive(Drop)]
+pub struct ChainRoom<'a> {
+    // That of the elements after the first one.
+    rest: Vec<Element<'a>>,
+    profiles: usize,
+}
+
+impl<'a> Model for ChainRoom<'a> {
+    ghost use Rattle.std.specs.Prelude.{◌≡◌, ℕ, ◌+◌, ◌≤◌, [], vec_capacity, vec_len};
+
+    ghost Value = { ℕ };
+
+    ghost view = { λ room. room.profiles };
+
+    ghost invariant = { λ room.
+        (room.rest.items ≡ [])
+        × (vec_len room.rest ≡ 0)
+        × (room.profiles ≤ 1 + vec_capacity room.rest) };
+}
+
+impl<'a> ChainRoom<'a> {
+    // Sets the memory aside. One profile needs none.
+    pub fn new(heap: Global, profiles: usize) -> Result<ChainRoom<'a>, AllocError>
+        ensures profiles { IfOk result (λ room. room ≡ profiles) }
+        ensures alone { profiles ≤ 1 → IsOk result }
+    {
+        let rest = Vec::with_capacity(heap, profiles.saturating_sub(1))?;
+        Ok(ChainRoom { rest, profiles })
+    }
+
+    // Whether it is large enough for one profile and so many after it.
+    fn suffices(&self, further: usize) -> bool
+        ensures { result ≡ nat_lt further self.now }
+    {
+        further < self.profiles
+    }
+
+    // The chain of one profile, with room for the others.
+    fn begin(self, source: &Source<'a>) -> Result<ElementChain<'a>, ChainError>
+        ensures answer { answered chain_view result ≡ begun (offered source.now) }
+        ensures room { IfOk result (λ chain. self.entry ≤ 1 + room_left chain) }
+    {
+        let opened = source
+            .open()
+            .map_err(|fault| ChainError::Profile { position: 0, fault })?;
+        Ok(ElementChain {
+            first: opened.element,
+            rest: self.rest,
+            gives: opened.gives,
+        })
     }
 }
 
@@ -67,21 +131,6 @@ pub struct ElementChain<'a> {
 }
 
 impl<'a> ElementChain<'a> {
-    // The chain of one profile.
-    fn begin(heap: Global, source: &Source<'a>) -> Result<ElementChain<'a>, ChainError>
-        ensures { Answers chain_view (λ _. ⊥) result (begun (opened source.now.bytes.now source.now.tag)) }
-    {
-        let opened = open(source.bytes, source.tag).map_err(|fault| ChainError::Profile {
-            position: 0,
-            fault,
-        })?;
-        Ok(ElementChain {
-            first: opened.element,
-            rest: Vec::new(heap),
-            gives: opened.gives,
-        })
-    }
-
     // The position of the profile that comes next.
     fn next_position(&self) -> usize
         ensures { result ≡ next_position (chain_view self.now) }
@@ -91,22 +140,22 @@ impl<'a> ElementChain<'a> {
 
     // One profile more. A chain that refuses it stays as it was.
     fn join(&mut self, source: &Source<'a>) -> Result<(), ChainError>
-        ensures answer { Answers (λ _. chain_view self.new) (λ k. (k ≡ next_position (chain_view self.old)) × IsOk (lengthened (chain_view self.old) (opened source.now.bytes.now source.now.tag))) result (lengthened (chain_view self.old) (opened source.now.bytes.now source.now.tag)) }
-        ensures position { IfOk result (λ _. next_position (chain_view self.new) ≡ next_position (chain_view self.old) + 1) }
+        requires { 0 < room_left self.old }
+        ensures answer { answered (λ _. chain_view self.new) result
+            ≡ lengthened (chain_view self.old) (offered source.now) }
+        ensures position { IfOk result (λ _.
+            next_position (chain_view self.new) ≡ next_position (chain_view self.old) + 1) }
+        ensures room { IfOk result (λ _. room_left self.old ≡ room_left self.new + 1) }
         ensures kept { IfErr result (λ _. chain_view self.new ≡ chain_view self.old) }
-        ensures full { (k : ℕ) → result ≡ Err (Memory k) → vec_capacity self.old.rest ≤ vec_len self.old.rest }
     {
         let position = self.next_position();
-        let opened = open(source.bytes, source.tag).map_err(|fault| ChainError::Profile {
-            position,
-            fault,
-        })?;
+        let opened = source
+            .open()
+            .map_err(|fault| ChainError::Profile { position, fault })?;
         if opened.takes != self.gives {
             return Err(ChainError::Spaces { position });
         }
-        self.rest
-            .push(opened.element)
-            .map_err(|_| ChainError::Memory { position })?;
+        self.rest.push_reserved(opened.element);
         self.gives = opened.gives;
         Ok(())
     }
@@ -145,18 +194,36 @@ impl Stage for ElementChain<'_> {
     }
 }
 
-// Opens the profiles in turn, one or more. The first one that has a fault, does not take the space that the one before it
-// gives, or finds no memory, is told by its position. No bound is worked out: `Rated` does that, and keeps it.
-pub fn open_chain<'a>(
-    heap: Global,
+// Opens the profiles in turn, in room that suffices.
+fn open_all<'a>(
+    room: ChainRoom<'a>,
     first: &Source<'a>,
     rest: &[Source<'a>],
 ) -> Result<ElementChain<'a>, ChainError>
-    ensures { Answers chain_view (OpenUpTo first.now rest.now) result (opened_chain first.now rest.now) }
+    requires { length rest.now < room }
+    ensures { answered chain_view result ≡ opened_chain first.now rest.now }
 {
-    let mut chain = ElementChain::begin(heap, first)?;
+    let mut chain = room.begin(first)?;
     for source in rest {
         chain.join(source)?;
     }
     Ok(chain)
+}
+
+// Opens the profiles in turn, one or more. The first one that has a fault, or does not take the space that the one before it
+// gives, is told by its position. Only where the room is too small is none of them looked at. No bound is worked out:
+// `Rated` does that, and keeps it.
+#[tactic(auto, using(crate::proofs::MeetingLaws::says_of))]
+pub fn open_chain<'a>(
+    room: ChainRoom<'a>,
+    first: &Source<'a>,
+    rest: &[Source<'a>],
+) -> Result<ElementChain<'a>, ChainError>
+    ensures value { answered chain_view result ≡ opened_within room.entry first.now rest.now }
+    ensures says { Says room.entry (first.now ∷ rest.now) (answered chain_view result) }
+{
+    if !room.suffices(rest.len()) {
+        return Err(ChainError::Room);
+    }
+    open_all(room, first, rest)
 }

@@ -30,7 +30,8 @@ impl Found {
     // The element that has a signature.
     pub(crate) fn read(bytes: &[u8], signature: u32) -> Result<Found, Fault>
         requires { 132 ≤ length bytes.now }
-        ensures value { result ≡ ruled (directory_checks bytes.now signature) (found bytes.now signature) }
+        ensures value { result
+            ≡ ruled (directory_checks bytes.now signature) (found bytes.now signature) }
         ensures inside { IfOk result (λ found. found.offset + found.size ≤ length bytes.now) }
     {
         let count = word(bytes, 128) as usize;

@@ -1,6 +1,7 @@
 // Elements: what a lut8 or a lut16 of a profile holds, as a stage over parts of the profile's bytes.
 ghost use Rattle.std.specs.Prelude.{◌≡◌, ◌+◌, ◌<◌, ◌≤◌, take, drop, length};
 ghost use Rattle.meaning.specs.Colours.{number};
+ghost use Rattle.stage.specs.Lattices.{points};
 ghost use Rattle.profile.specs.Kinds.{kind_of, head, width};
 ghost use Rattle.profile.specs.Layouts.{input_meaning, input_lawful, element_meaning};
 ghost use Rattle.profile.specs.Views.{narrow_bytes, wide_bytes, part_view, placed_view, element_view, element_lawful};
@@ -50,7 +51,7 @@ impl Kind {
     }
 }
 
-// A part of a profile's bytes, and its place in the file.
+// A part of a profile's bytes, and its place in them.
 #[derive(Clone, Copy)]
 pub struct Part<'a> {
     pub place: usize,
@@ -65,7 +66,7 @@ pub struct Tables<'a> {
     pub output: Part<'a>,
 }
 
-// A table's entries, and the place in the file at which they begin.
+// A table's entries, and the place in the profile's bytes at which they begin.
 #[derive(Clone, Copy)]
 pub struct Placed<E> {
     pub place: usize,
@@ -124,7 +125,7 @@ impl<E: Entries> Entries for Placed<E> {
     }
 }
 
-// What runs before the lattice: the input curves, behind the matrix where there is one.
+// What runs before the lattice: the input curves, after the matrix where there is one.
 #[derive(Clone, Copy)]
 pub struct Input<E> {
     pub matrix: Option<Matrix>,
@@ -134,7 +135,9 @@ pub struct Input<E> {
 impl<E: Entries> Stage for Input<E> {
     ghost meaning = { λ s. input_meaning s.matrix (⟦<Curves<E> as Stage>⟧.meaning s.curves) };
 
-    ghost lawful = { λ s. input_lawful s.matrix (⟦<Curves<E> as Stage>⟧.meaning s.curves) (⟦<Curves<E> as Stage>⟧.lawful s.curves) };
+    ghost lawful = { λ s. input_lawful s.matrix
+        (⟦<Curves<E> as Stage>⟧.meaning s.curves)
+        (⟦<Curves<E> as Stage>⟧.lawful s.curves) };
 
     fn ins(&self) -> Channels {
         match self.matrix {
@@ -205,7 +208,7 @@ impl<'a> Element<'a> {
 
     // The grid points of its lattice.
     pub fn grid(&self) -> Grid
-        ensures { result.0 ≡ (element_view self.now).nodes.grid }
+        ensures { points result ≡ (element_view self.now).nodes.grid }
     {
         match self {
             Element::Lut8(narrow) => narrow.first.second.grid(),
@@ -213,7 +216,7 @@ impl<'a> Element<'a> {
         }
     }
 
-    // The input tables, the nodes and the output tables: their bytes, and where in the file they lie.
+    // The input tables, the nodes and the output tables: their bytes, and where these lie in those that were opened or read.
     pub fn tables(&self) -> Tables<'a>
         ensures input { part_view result.input ≡ (element_view self.now).input.table }
         ensures nodes { part_view result.nodes ≡ (element_view self.now).nodes.table }

@@ -25,7 +25,8 @@ impl Layer {
     }
 }
 
-// A fault of a profile. `record` is the place of the directory's record, `element` that of the element, in the file.
+// A fault of a profile, or of an element that is read alone. `record` is the place of the directory's record and `element`
+// that of the element: in the file, or 0 where the element is read alone.
 #[derive(Clone, Copy, PartialEq, Eq, Debug)]
 pub enum Fault {
     // The length: under 132 bytes, over 16,777,216, or not the one that the first four bytes tell.
@@ -48,7 +49,7 @@ pub enum Fault {
     UnknownType { element: u32 },
     // It does not take the channels of the space before it.
     InChannels { element: u32 },
-    // It does not give the channels of the space behind it.
+    // It does not give the channels of the space after it.
     OutChannels { element: u32 },
     // It has fewer than 2 grid points.
     GridPoints { element: u32 },
@@ -97,7 +98,7 @@ impl Fault {
         }
     }
 
-    // The byte of the file that it is about, counted from 0.
+    // The byte that it is about, counted from 0: of the file, or of the element that is read alone.
     pub fn place(self) -> u64
         ensures { result ≡ (told self).place }
     {

@@ -42,7 +42,7 @@ impl Header {
         Ok(Header { colour, other })
     }
 
-    // The space in front of an element.
+    // The space that an element takes.
     pub(crate) fn space_in(&self, tag: Tag) -> Space
         ensures { result ≡ space_in self.now tag }
     {
@@ -52,7 +52,7 @@ impl Header {
         }
     }
 
-    // The space behind an element.
+    // The space that an element gives.
     pub(crate) fn space_out(&self, tag: Tag) -> Space
         ensures { result ≡ space_out self.now tag }
     {

@@ -6,6 +6,7 @@ mod bytes;
 pub mod chain;
 mod directory;
 pub mod element;
+mod faithful;
 pub mod fault;
 pub mod header;
 pub mod opening;
@@ -14,7 +15,7 @@ mod sentences;
 pub mod space;
 pub mod tag;
 
-pub use chain::{ChainError, ElementChain, Report, Source, open_chain};
+pub use chain::{ChainError, ChainRoom, ElementChain, Report, Source, open_chain};
 pub use element::{Element, Kind, Part, Tables};
 pub use fault::{Fault, Layer};
 pub use header::Header;

@@ -3,7 +3,8 @@ ghost use Rattle.std.specs.Prelude.{◌≡◌, IfOk, IfErr};
 ghost use Rattle.profile.specs.Checks.{Passing, FirstFailing};
 ghost use Rattle.profile.specs.Headers.{space_in, space_out};
 ghost use Rattle.profile.specs.Opening.{between, checks, opened, opening_view, viewed};
-ghost use Rattle.profile.specs.Parts.{TablesOf};
+ghost use Rattle.profile.specs.Parts.{TablesOf, TakenFrom};
+ghost use Rattle.profile.specs.Tags.{signature};
 ghost use Rattle.profile.specs.Views.{element_view, element_viewed};
 
 use crate::directory::Found;
@@ -25,7 +26,8 @@ pub struct Opened<'a> {
 impl Header {
     // Reads the element between the header's spaces.
     fn read_element<'a>(&self, tag: Tag, reader: &Reader<'a>) -> Result<Element<'a>, Fault>
-        ensures { element_viewed result ≡ between reader.now.bytes.now reader.now.place self.now tag }
+        ensures { element_viewed result
+            ≡ between reader.now.bytes.now reader.now.place self.now tag }
     {
         let takes = self.space_in(tag).channels();
         let gives = self.space_out(tag).channels();
@@ -34,7 +36,11 @@ impl Header {
 
     // The opened profile, with the header's spaces.
     fn opened<'a>(&self, tag: Tag, element: Element<'a>) -> Opened<'a>
-        ensures { opening_view result ≡ record { takes = space_in self.now tag; gives = space_out self.now tag; element = element_view element.entry } }
+        ensures { opening_view result ≡ record {
+          takes = space_in self.now tag;
+          gives = space_out self.now tag;
+          element = element_view element.entry;
+        } }
     {
         Opened {
             takes: self.space_in(tag),
@@ -61,6 +67,11 @@ impl<'a> Opened<'a> {
 pub fn open(bytes: &[u8], tag: Tag) -> Result<Opened<'_>, Fault>
     ensures value { viewed result ≡ opened bytes.now tag }
     ensures passing { IfOk result (λ _. Passing (checks bytes.now tag)) }
+    // No record before the one that is taken has the tag's signature. The element lies where that one says, and its tables
+    // lie one behind the other.
+    ensures taken { IfOk result (λ opened.
+        TakenFrom bytes.now (signature tag) (element_view opened.element)) }
+    // Each table is a part of the file, with all its entries.
     ensures parts { IfOk result (λ opened. TablesOf bytes.now (element_view opened.element)) }
     ensures first { IfErr result (λ fault. FirstFailing (checks bytes.now tag) fault) }
 {

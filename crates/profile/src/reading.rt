@@ -1,7 +1,7 @@
 // Reading an element: its first bytes tell its shape, and its tables lie behind them.
 ghost use Rattle.std.specs.Prelude.{◌≡◌, ◌+◌, ◌^◌, ◌<◌, ◌≤◌, take, drop, length};
 ghost use Rattle.profile.specs.Checks.{ruled};
-ghost use Rattle.profile.specs.Elements.{input_size, nodes_size, output_size, tables_end, input_table, nodes_table, output_table, table_checks, element_checks, laid_out, layout, element_read};
+ghost use Rattle.profile.specs.Elements.{input_size, nodes_size, output_size, tables_end, input_table, nodes_table, output_table, table_checks, laid_out, element_at, element_read};
 ghost use Rattle.profile.specs.Views.{part_view, element_view, element_viewed, stages_over};
 ghost use Rattle.profile.specs.Shapes.{input_length, output_length, shape_checks, shape, coefficients, coefficient_at};
 
@@ -70,7 +70,7 @@ impl Shape {
     }
 }
 
-// The bytes of an element, and its place in the file.
+// The bytes of an element, and its place in the file, or 0 where they are read alone.
 #[derive(Clone, Copy)]
 pub(crate) struct Reader<'a> {
     pub place: u32,
@@ -102,7 +102,8 @@ impl<'a> Reader<'a> {
 
     // The shape of an element between spaces of some channels.
     pub(crate) fn shape(&self, takes: Channels, gives: Channels) -> Result<Shape, Fault>
-        ensures { result ≡ ruled (shape_checks self.now.bytes.now self.now.place takes gives) (shape self.now.bytes.now takes gives) }
+        ensures { let e = self.now.bytes.now in
+            result ≡ ruled (shape_checks e self.now.place takes gives) (shape e takes gives) }
     {
         let element = self.place;
         // 40 more than the 12 that are named are 52
@@ -178,9 +179,12 @@ impl<'a> Reader<'a> {
     // The tables of an element of that shape.
     fn tables(&self, shape: &Shape) -> Tables<'a>
         requires { tables_end shape.now ≤ length self.now.bytes.now }
-        ensures input { part_view result.input ≡ input_table self.now.bytes.now self.now.place shape.now }
-        ensures nodes { part_view result.nodes ≡ nodes_table self.now.bytes.now self.now.place shape.now }
-        ensures output { part_view result.output ≡ output_table self.now.bytes.now self.now.place shape.now }
+        ensures input { part_view result.input
+            ≡ input_table self.now.bytes.now self.now.place shape.now }
+        ensures nodes { part_view result.nodes
+            ≡ nodes_table self.now.bytes.now self.now.place shape.now }
+        ensures output { part_view result.output
+            ≡ output_table self.now.bytes.now self.now.place shape.now }
     {
         let input_start = shape.kind.head();
         let nodes_start = input_start + shape.input_size();
@@ -237,7 +241,8 @@ impl<'a> Reader<'a> {
 
     // The element between spaces of some channels.
     pub(crate) fn read(&self, takes: Channels, gives: Channels) -> Result<Element<'a>, Fault>
-        ensures { element_viewed result ≡ ruled (element_checks self.now.bytes.now self.now.place takes gives) (layout self.now.bytes.now self.now.place takes gives) }
+        ensures { element_viewed result
+            ≡ element_at self.now.bytes.now self.now.place takes gives }
     {
         let shape = self.shape(takes, gives)?;
         self.check_tables(&shape)?;

@@ -1,7 +1,16 @@
 use Rattle.profile.proofs.OpeningLaws.{passes_all, fails_first}
-use Rattle.profile.proofs.PartLaws.{tables_lie}
+use Rattle.profile.proofs.PartLaws.{tables_lie, taken}
 use Rattle.profile.proofs.opening.open.Goals as goal
 
 pub returns : goal.returns
 returns c =
-    record { value = c.read.ensures; passing = passes_all c.args.bytes.now c.args.tag c.read.result c.read.ensures; parts = tables_lie c.args.bytes.now c.args.tag c.read.result c.read.ensures; first = fails_first c.args.bytes.now c.args.tag c.read.result c.read.ensures }
+    let b = c.args.bytes.now in
+    let t = c.args.tag in
+    let r = c.read.result in
+    record {
+      value = c.read.ensures;
+      passing = passes_all b t r c.read.ensures;
+      taken = taken b t r c.read.ensures;
+      parts = tables_lie b t r c.read.ensures;
+      first = fails_first b t r c.read.ensures;
+    }
