@@ -43,7 +43,7 @@ impl<S: Stage> Model for Converter<S> {
 }
 
 impl<S: Stage> Converter<S> {
-    // A converter over a stage, with no link. A run of no calls starts with it, and any calls can follow.
+    // A converter over a stage, with no link. Over any table, a run of no calls starts with it, and any calls can follow.
     pub fn new(stage: S) -> Converter<S>
         ensures stage { result.stage ≡ stage }
         ensures state { result.state ≡ Empty }
@@ -80,14 +80,15 @@ impl<S: Stage> Converter<S> {
     }
 
     // Begins a link with 2 to 33 grid points, in place of any other. The table is to hold its nodes, and is not written.
-    // Refused for another grid, then for a shorter table.
+    // Refused for another grid, then for a shorter table. Every run that led here goes on by this call, accepted or refused,
+    // and then the link is as the run's log says.
     pub fn begin(&mut self, table: &[u16], grid: u32) -> Result<(), Refusal>
         ensures answer { let m = S.Stage.meaning self.old.stage in
             result ≡ answered (begin_refusal m grid (length table.now)) tt }
         ensures state { let begun = Filling (grid_with grid) 0 in
             self.new.state ≡ left (refused result) self.old.state begun }
         ensures stage { self.new.stage ≡ self.old.stage }
-        // every run goes on by this call
+        // the call with its refusal, then state and table before it and after it
         ensures run { let m = S.Stage.meaning self.old.stage in
             Continues m (begin grid) (refused result)
             self.old.state table.now self.new.state table.now }
@@ -97,7 +98,9 @@ impl<S: Stage> Converter<S> {
     }
 
     // Stores the stage's answers at the next nodes, as many as the budget allows or as are missing, and writes nothing else.
-    // The last node makes the link full. Refused without a link, for a full one, then for a shorter table.
+    // The last node makes the link full. Refused without a link, for a full one, then for a shorter table. Every run that led
+    // here goes on by this call, and then the link is as the run's log says: full exactly where the accepted budgets since the
+    // last begin reach the number of its nodes.
     pub fn fill(&mut self, table: &mut [u16], budget: usize) -> Result<Filled, Refusal>
         ensures answer { let m = S.Stage.meaning self.old.stage in
             let refusal = fill_refusal m self.old.state budget (length table.old) in
@@ -109,7 +112,7 @@ impl<S: Stage> Converter<S> {
             let after = filled_table m self.old.state budget table.old in
             table.new ≡ left (refused result) table.old after }
         ensures stage { self.new.stage ≡ self.old.stage }
-        // every run goes on by this call
+        // the call with its refusal, then state and table before it and after it
         ensures run { let m = S.Stage.meaning self.old.stage in
             Continues m (fill budget) (refused result)
             self.old.state table.old self.new.state table.new }
@@ -122,7 +125,8 @@ impl<S: Stage> Converter<S> {
 
     // Sends a row through the stage, each pixel that enters to its place of the leaving row. Returns the error bound, in
     // grains, that every count delivered keeps. Refused for other channels than the stage's, then for rows of two lengths.
-    // After any run too, an accepted row delivers within the bound returned.
+    // After every run that led here, over any table, an accepted row delivers within the bound returned. The run goes on by
+    // this call, which leaves link and table as they are.
     pub fn row<P: Pixel, Q: Pixel>(&self, entering: &[P], leaving: &mut [Q]) -> Result<u32, Refusal>
         ensures answer { let m = S.Stage.meaning self.now.stage in
             result ≡ row_answer m P.Pixel.kind Q.Pixel.kind entering.now leaving.old }
@@ -135,7 +139,7 @@ impl<S: Stage> Converter<S> {
         ensures law { let m = S.Stage.meaning self.now.stage in
             (table : List ℕ) → AfterRuns m self.now.state table
             (Accepted result (Delivers m P.Pixel.kind Q.Pixel.kind entering.now leaving.new)) }
-        // every run goes on by this call, which leaves state and table as they are
+        // the call with its refusal, then state and table before it and after it
         ensures run { let m = S.Stage.meaning self.now.stage in
             let shape = shape_of P.Pixel.kind Q.Pixel.kind entering.now leaving.old in
             (table : List ℕ) → Continues m (row shape) (refused result)
@@ -149,7 +153,9 @@ impl<S: Stage> Converter<S> {
 
     // Sends a row through the full link. Returns the error bound, in grains, that every count delivered keeps, beside the
     // exact value of the stage itself. Refused as a row is, then without a link, for one that is filling, and for a shorter
-    // table. Its clause `promise` says what holds after every run: of the link, and of the rows and link rows that come next.
+    // table. After every run that led here, over the table that it left, an accepted link row delivers within the bound
+    // returned, and the run goes on by this call. The clause `promise` says the whole: what every run upholds of the link, and
+    // of the rows and link rows that come next.
     pub fn link_row<P: Pixel, Q: Pixel>(
         &self,
         table: &[u16],
@@ -166,13 +172,15 @@ impl<S: Stage> Converter<S> {
         ensures law { let m = S.Stage.meaning self.now.stage in
             AfterRuns m self.now.state table.now
             (Accepted result (Delivers m P.Pixel.kind Q.Pixel.kind entering.now leaving.new)) }
-        // every run goes on by this call, which leaves state and table as they are
+        // the call with its refusal, then state and table before it and after it
         ensures run { let m = S.Stage.meaning self.now.stage in
             let shape = shape_of P.Pixel.kind Q.Pixel.kind entering.now leaving.old in
             Continues m (link_row shape) (refused result)
             self.now.state table.now self.now.state table.now }
-        // the whole promise of a converter over this stage, for pixels of these two kinds
-        ensures promise { EveryRunUpholds (S.Stage.meaning self.now.stage) P.Pixel.kind Q.Pixel.kind }
+        // the whole promise of a converter over this stage, for pixels of these two kinds: after every run over every table,
+        // the link is as its log says, and any row or link row that comes next delivers within the bound that it returns
+        ensures promise { let m = S.Stage.meaning self.now.stage in
+            EveryRunUpholds m P.Pixel.kind Q.Pixel.kind }
     {
         if let Some(refusal) = self.pixels_refused(entering, leaving) {
             return Err(refusal);
@@ -181,10 +189,11 @@ impl<S: Stage> Converter<S> {
         Ok(self.deliver_through(link, entering, leaving))
     }
 
-    // The error bounds: the stage's, and that of the link if one is filling or full. Never refused.
+    // The error bounds: the stage's, and that of the link if one is filling or full. Never refused. Every run that led here goes
+    // on by this call, which leaves link and table as they are.
     pub fn quote(&self) -> Quote
         ensures answer { result ≡ quoted (S.Stage.meaning self.now.stage) self.now.state }
-        // every run goes on by this call, which leaves state and table as they are
+        // the call with its refusal, then state and table before it and after it
         ensures run { let m = S.Stage.meaning self.now.stage in
             (table : List ℕ) → Continues m quote None self.now.state table self.now.state table }
     {
@@ -200,7 +209,8 @@ impl<S: Stage> Converter<S> {
     }
 
     // Writes the full link as a lut16 element at the front of the output, and returns how many bytes it has. Refused without
-    // a link, for one that is filling, for a shorter table, then for a shorter output.
+    // a link, for one that is filling, for a shorter table, then for a shorter output. What is written reads back as the link.
+    // Every run that led here goes on by this call, which leaves link and table as they are.
     pub fn write(&self, table: &[u16], output: &mut [u8]) -> Result<usize, Refusal>
         ensures answer { let m = S.Stage.meaning self.now.stage in
             let s = self.now.state in
@@ -214,7 +224,7 @@ impl<S: Stage> Converter<S> {
             let nodes = take (link_numbers m self.now.state) table.now in
             Accepted result (λ long.
             ReadsBack m.ins m.outs (grid_points self.now.state) nodes (take long output.new)) }
-        // every run goes on by this call, which leaves state and table as they are
+        // the call with its refusal, then state and table before it and after it
         ensures run { let m = S.Stage.meaning self.now.stage in
             Continues m (write (length output.old)) (refused result)
             self.now.state table.now self.now.state table.now }
@@ -244,11 +254,11 @@ impl<S: Stage> Converter<S> {
         Ok(self.answer_of(&output[..length], colour).unwrap())
     }
 
-    // Drops the link, if there is one. Never refused.
+    // Drops the link, if there is one. Never refused. Every run that led here goes on by this call, over whatever table.
     pub fn drop_link(&mut self)
         ensures state { self.new.state ≡ Empty }
         ensures stage { self.new.stage ≡ self.old.stage }
-        // every run goes on by this call, over whatever table
+        // the call with its refusal, then state and table before it and after it
         ensures run { let m = S.Stage.meaning self.old.stage in
             (table : List ℕ) → Continues m drop_link None
             self.old.state table self.new.state table }

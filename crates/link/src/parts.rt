@@ -56,8 +56,10 @@ impl<S: Stage> Converter<S> {
         ensures answer { let shape = shape_of P.Pixel.kind Q.Pixel.kind entering.now leaving.now in
             result ≡ row_refusal (S.Stage.meaning self.now.stage) shape }
         // a row that is not refused has the stage's channels
-        ensures enters { result ≡ None → (S.Stage.meaning self.now.stage).ins ≡ P.Pixel.kind.channels }
-        ensures leaves { result ≡ None → (S.Stage.meaning self.now.stage).outs ≡ Q.Pixel.kind.channels }
+        ensures enters { let m = S.Stage.meaning self.now.stage in
+            result ≡ None → m.ins ≡ P.Pixel.kind.channels }
+        ensures leaves { let m = S.Stage.meaning self.now.stage in
+            result ≡ None → m.outs ≡ Q.Pixel.kind.channels }
     {
         if self.stage.ins() != P::channels() || self.stage.outs() != Q::channels() {
             Some(Refusal::PixelChannels)
@@ -78,7 +80,8 @@ impl<S: Stage> Converter<S> {
 
     // Whether a table of so many numbers holds a link with that grid.
     fn check_table(&self, grid: Grid, numbers: usize) -> Result<(), Refusal>
-        ensures { let held = nat_le (numbers_of (S.Stage.meaning self.now.stage) (points grid)) numbers in
+        ensures { let m = S.Stage.meaning self.now.stage in
+            let held = nat_le (numbers_of m (points grid)) numbers in
             result ≡ answered (unless held TableLength) tt }
     {
         if self.numbers_of(grid.points()) <= numbers {
@@ -123,7 +126,8 @@ impl<S: Stage> Converter<S> {
         requires some { 2 ≤ points nodes.now.grid }
         requires inside { let m = S.Stage.meaning self.now.stage in
             nodes.now.first + nodes.now.filled.stored ≤ points nodes.now.grid ^ number m.ins }
-        requires room { numbers_of (S.Stage.meaning self.now.stage) (points nodes.now.grid) ≤ length table.old }
+        requires room { let m = S.Stage.meaning self.now.stage in
+            numbers_of m (points nodes.now.grid) ≤ length table.old }
         ensures { let m = S.Stage.meaning self.now.stage in
             let grid = points nodes.now.grid in
             table.new ≡ stored_table m grid nodes.now.first nodes.now.filled.stored table.old }
@@ -248,7 +252,8 @@ impl<S: Stage> Converter<S> {
         ensures long { let m = S.Stage.meaning self.now.stage in
             IfOk result (λ written. length written.0.nodes.now ≡ link_numbers m self.now.state) }
         ensures nodes { let m = S.Stage.meaning self.now.stage in
-            IfOk result (λ written. written.0.nodes.now ≡ take (link_numbers m self.now.state) table.now) }
+            let nodes = take (link_numbers m self.now.state) table.now in
+            IfOk result (λ written. written.0.nodes.now ≡ nodes) }
     {
         let link = self.lent(Event::Write, table)?;
         let length = self.length_with(link.grid);
