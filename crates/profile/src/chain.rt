@@ -195,6 +195,7 @@ impl Stage for ElementChain<'_> {
 }
 
 // Opens the profiles in turn, in room that suffices.
+#[tactic(auto, using(crate::proofs::ChainingLaws::failed_first, crate::proofs::ChainingLaws::failed_later))]
 fn open_all<'a>(
     room: ChainRoom<'a>,
     first: &Source<'a>,
