@@ -188,6 +188,8 @@ impl<S: Stage> Converter<S> {
         ensures leaving { let m = S.Stage.meaning self.now.stage in
             leaving.new ≡ row_pixels m P.Pixel.kind Q.Pixel.kind entering.now }
     {
+        // every state takes a row, and stays as it is
+        let _ = self.state.decide(self.stage.ins(), Event::Row).unwrap();
         deliver(&self.stage, self.stage.error(), entering, leaving)
     }
 
