@@ -5,7 +5,7 @@ use Rattle.meaning.specs.declared.Channels.{Channels}
 use Rattle.meaning.specs.Colours.{number}
 use Rattle.link.specs.declared.refusal.Refusal.{Refusal}
 use Rattle.link.specs.Refusals.{left}
-use Rattle.link.specs.Runs.{Call, begin, fill, row, link_row, quote, write, drop_link, Logged, Log, WasAccepted, Restarts, GoesOn, budget_of, accepted_budget, budgets, Baked}
+use Rattle.link.specs.Runs.{Call, begin, fill, row, link_row, quote, write, drop_link, Logged, Log, WasAccepted, Restarts, NoRestart, budget_of, accepted_budget, budgets, IsBaked}
 
 -- a grid and the budgets since its begin, with one more budget
 abbrev pub with_budget : ℕ → Option (ℕ × ℕ) → Option (ℕ × ℕ)
@@ -36,7 +36,7 @@ pub record Since (log : Log) (g total : ℕ) : Type 0 where
   pub since : Log
   pub earlier : Log
   pub begun : log ≡ since ++ (record { call = begin g; refused = None } ∷ earlier)
-  pub goes_on : GoesOn since
+  pub goes_on : NoRestart since
   pub sum : budgets since ≡ total
 
 -- one more call that restarts nothing
@@ -96,7 +96,7 @@ onward_on (write n) None g total on = ap (λ n. Some (g, n)) (sym (zero-add tota
 onward_on drop_link None g total on = absurd (on refl tt)
 
 -- a log that goes on from an accepted begin has that grid, and the budgets since
-progress_on : (since earlier : Log) (g : ℕ) → GoesOn since → progress (since ++ (record { call = begin g; refused = None } ∷ earlier)) ≡ Some (g, budgets since)
+progress_on : (since earlier : Log) (g : ℕ) → NoRestart since → progress (since ++ (record { call = begin g; refused = None } ∷ earlier)) ≡ Some (g, budgets since)
 progress_on [] earlier g on = refl
 progress_on (logged ∷ since) earlier g on =
     let P : Logged → Type 0 = λ a. WasAccepted a → Restarts a.call → ⊥ in
@@ -104,11 +104,11 @@ progress_on (logged ∷ since) earlier g on =
     ∙ onward_on logged.call logged.refused g (budgets since) (All-head P logged since on)
 
 -- a log that bakes a link has progress, which reaches the number of its nodes
-pub baked_progress : (i : Channels) (log : Log) (g : ℕ) → Baked i log g → (total : ℕ) × (progress log ≡ Some (g, total)) × (g ^ number i ≤ total)
+pub baked_progress : (i : Channels) (log : Log) (g : ℕ) → IsBaked i log g → (total : ℕ) × (progress log ≡ Some (g, total)) × (g ^ number i ≤ total)
 baked_progress i log g h = (budgets h.since, ap progress h.begun ∙ progress_on h.since h.earlier g h.goes_on, h.enough)
 
 -- and progress that reaches it bakes the link
-pub progress_baked : (i : Channels) (log : Log) (g total : ℕ) → progress log ≡ Some (g, total) → g ^ number i ≤ total → Baked i log g
+pub progress_baked : (i : Channels) (log : Log) (g total : ℕ) → progress log ≡ Some (g, total) → g ^ number i ≤ total → IsBaked i log g
 progress_baked i log g total h enough =
     let s = since_progress log g total h in
     record { since = s.since; earlier = s.earlier; begun = s.begun; goes_on = s.goes_on; enough = subst (λ n. g ^ number i ≤ n) (sym s.sum) enough }

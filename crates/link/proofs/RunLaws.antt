@@ -16,7 +16,7 @@ use Rattle.link.specs.declared.state.State.TheVariants as state
 use Rattle.link.specs.Calls.{numbers_of, begin_refusal, fill_refusal, filled_table}
 use Rattle.link.specs.Refusals.{left, unless}
 use Rattle.link.specs.States.{filled_state}
-use Rattle.link.specs.Runs.{Call, begin, fill, row, link_row, quote, write, drop_link, Logged, Log, call_refusal, state_after, table_after, Happened, Reached, Baked, LinkAsLogged, AfterRuns, Run, Starts, Continues}
+use Rattle.link.specs.Runs.{Call, begin, fill, row, link_row, quote, write, drop_link, Logged, Log, call_refusal, state_after, table_after, Happened, Reached, IsBaked, LinkAsLogged, AfterRuns, Run, Starts, Continues}
 use Rattle.link.proofs.RefusalLaws.{first_holds, left_same}
 use Rattle.link.proofs.LogLaws.{progress, onward, same_progress, baked_progress, progress_baked}
 
@@ -161,7 +161,7 @@ module _ (m : Meaning) where
   -- ---- what is promised
 
   -- a full link is baked by its log
-  full_baked : (log : Log) (s : State) (t : List ℕ) (g : ℕ) → Stands (progress log) s t → s ≡ state.Full (grid_with g) → Baked m.ins log g
+  full_baked : (log : Log) (s : State) (t : List ℕ) (g : ℕ) → Stands (progress log) s t → s ≡ state.Full (grid_with g) → IsBaked m.ins log g
   full_baked log s t g h is =
       let holds : Holds (progress log) g t = subst (λ x. Stands (progress log) x t) is h in
       progress_baked m.ins log g holds.total holds.progress holds.enough

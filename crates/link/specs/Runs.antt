@@ -1,4 +1,5 @@
--- Whole runs of a converter: what was called and how it was answered, and what then holds of the link and of the next rows.
+-- Whole runs of a converter: what was called and why it was refused, if it was, and what then holds of the link and of the
+-- rows that come next.
 use Rattle.std.specs.Prelude.{◌≡◌, ℕ, ◌+◌, ◌^◌, ◌≤◌, ◌↔◌, List, [], ◌∷◌, ◌++◌, length, map, take, Option, None}
 use Rattle.std.specs.List.{All}
 use Rattle.meaning.specs.declared.Channels.{Channels}
@@ -110,9 +111,9 @@ Restarts quote = ⊥
 Restarts (write n) = ⊥
 Restarts drop_link = Unit {0}
 
--- no begin was accepted, and no drop was made
-abbrev pub GoesOn : Log → Type 0
-GoesOn = All (λ logged. WasAccepted logged → Restarts logged.call → ⊥)
+-- no begin and no drop was accepted
+abbrev pub NoRestart : Log → Type 0
+NoRestart = All (λ logged. WasAccepted logged → Restarts logged.call → ⊥)
 
 -- the budget of a fill; other calls have none
 abbrev pub budget_of : Call → ℕ
@@ -135,29 +136,31 @@ budgets (logged ∷ log) = accepted_budget logged + budgets log
 
 -- some accepted begin, of g grid points, is still in force, since nothing began or dropped a link after it; and what the
 -- accepted fills after it were allowed reaches the number of its nodes
-pub record Baked (i : Channels) (log : Log) (g : ℕ) : Type 0 where
+pub record IsBaked (i : Channels) (log : Log) (g : ℕ) : Type 0 where
   pub since : Log
   pub earlier : Log
   pub begun : log ≡ since ++ (record { call = begin g; refused = None } ∷ earlier)
-  pub goes_on : GoesOn since
+  pub goes_on : NoRestart since
   pub enough : g ^ number i ≤ budgets since
 
--- the link is full exactly where its log says that it is baked; and then its nodes are the stage's answers
+-- the link is full, with g grid points, exactly where the log says that such a link is baked; and then the table holds the
+-- stage's answers at its nodes
 pub record LinkAsLogged (m : Meaning) (log : Log) (s : State) (t : List ℕ) : Type 0 where
-  pub full_when_baked : (g : ℕ) → (s ≡ Full (grid_with g)) ↔ Baked m.ins log g
+  pub full_when_baked : (g : ℕ) → (s ≡ Full (grid_with g)) ↔ IsBaked m.ins log g
   pub nodes : (g : ℕ) → s ≡ Full (grid_with g) → take (numbers_of m g) t ≡ baked m g
 
 -- ---- the promise over whole runs
 
--- what a run upholds for pixels of two kinds, where it has led to a state and a table
+-- what a run upholds for pixels of two kinds, where it has led to a state and a table. What a row and a link row answer and
+-- leave is defined in Rows and Calls, and is what the calls promise to answer and leave
 pub record Upheld {P Q : Type 0} (m : Meaning) (kp : Kind P) (kq : Kind Q) (log : Log) (s : State) (t : List ℕ) : Type 0 where
   -- the link is full exactly where the log says so, and then holds the stage's answers
   pub link : LinkAsLogged m log s t
-  -- whatever row comes next, if it is accepted then every channel is delivered within the bound that is returned
+  -- whatever row comes next: if it is accepted, what it leaves delivers every channel within the bound that it answers
   pub rows : (entering : List P) (leaving : List Q) →
       Accepted (row_answer m kp kq entering leaving)
       (λ bound. Delivers m kp kq entering (row_left m kp kq entering leaving) bound)
-  -- and so it is of whatever link row comes next, beside the exact values of the stage itself
+  -- and so does a link row, also beside the exact values of the stage itself
   pub link_rows : (entering : List P) (leaving : List Q) →
       Accepted (link_row_answer m s t kp kq entering leaving)
       (λ bound. Delivers m kp kq entering (link_row_left m s t kp kq entering leaving) bound)
@@ -169,7 +172,7 @@ EveryRunUpholds m kp kq =
 
 -- ---- what each call adds to it
 
--- after any run that led to s and t, the link is as its log says, and what comes next does what it should
+-- after any run that led to s and t, the link is full exactly where the log says so; and Next holds
 unfoldable pub AfterRuns : Meaning → State → List ℕ → Type 0 → Type 0
 AfterRuns m s t Next = (t₀ : List ℕ) (log : Log) → Reached m t₀ log s t → LinkAsLogged m log s t × Next
 

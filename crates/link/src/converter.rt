@@ -1,17 +1,22 @@
 // The converter: a stage, and a link of it that is filled between rows. The table of the link's nodes is lent with each call
 // that looks at it, and no other call touches it.
 //
-// Each call promises what it answers and what it leaves, by definitions in specs/Calls and specs/Rows; a clause that is not
-// about a refused call says what stands there. Beyond that, each call promises how it goes on with a run (specs/Runs): a run
-// is a list of calls from a new converter on, over one table that nothing else writes. What holds after every run, for all
-// calls together, is the clause `promise` of `link_row`.
+// A call that can be refused promises in `answer` why it is refused, in which order, and what it answers where it is accepted.
+// `left (refused result) old new` is what it leaves: the old value where it is refused, the new one where it is accepted.
+// `Accepted result P` says P of the value of an accepted call, and nothing of a refused one. What a call is refused for,
+// answers and leaves is defined in specs/Calls, specs/Rows and specs/States. Errors and bounds are in grains, 1/65,536 of a
+// count.
+//
+// The seven calls begin, fill, row, link row, quote, write and drop also promise in `run` how they go on with a run (specs/Runs):
+// a run is a list of these calls from a new converter on, over one table that nothing else writes. The clause `promise` of
+// `link_row` says of all runs together what holds after them. (`read_back` is a write that is read; the other calls only look.)
 ghost use Rattle.std.specs.Prelude.{◌≡◌, List, ℕ, None, length, take};
 ghost use Rattle.stage.specs.Lattices.{grid_with};
 ghost use Rattle.link.specs.declared.state.State.TheVariants.{Empty, Filling};
-ghost use Rattle.link.specs.Calls.{begin_refusal, element_length, fill_refusal, filled_table, link_length, link_numbers, link_row_answer, link_row_left, quoted, table_length, table_link, write_refusal, written_output};
+ghost use Rattle.link.specs.Calls.{begin_refusal, element_length, fill_refusal, filled_table, link_length, link_numbers, link_row_answer, quoted, table_length, table_link, write_refusal, written_output};
 ghost use Rattle.link.specs.ReadBack.{ReadsBack};
 ghost use Rattle.link.specs.Refusals.{answered, left, refused, Accepted};
-ghost use Rattle.link.specs.Rows.{row_answer, row_left, shape_of, Delivers};
+ghost use Rattle.link.specs.Rows.{row_answer, row_pixels, shape_of, Delivers};
 ghost use Rattle.link.specs.Runs.{begin, fill, row, link_row, quote, write, drop_link, AfterRuns, Continues, EveryRunUpholds, LinkAsLogged, Log, Reached, Starts};
 ghost use Rattle.link.specs.States.{filled, filled_state, grid_points};
 
@@ -52,15 +57,15 @@ impl<S: Stage> Converter<S> {
         Converter::over(Rated::new(stage))
     }
 
-    // The stage, with its figures.
+    // The stage, which keeps its steepness and its error.
     pub fn stage(&self) -> &Rated<S>
         ensures { result.now ≡ self.now.stage }
     {
         &self.stage
     }
 
-    // Where the link stands. After any run of calls it is full exactly where the log of these calls says so, and then its
-    // nodes are the stage's answers.
+    // Where the link stands. After any run it is full exactly where the log of the run says so, and then the table that the run
+    // left holds the stage's answers at its nodes.
     pub fn state(&self) -> State
         ensures answer { result ≡ self.now.state }
         ensures law { let m = S.Stage.meaning self.now.stage in
@@ -79,16 +84,16 @@ impl<S: Stage> Converter<S> {
         Some(self.numbers_of(grid.points()))
     }
 
-    // Begins a link with 2 to 33 grid points, in place of any other. The table is to hold its nodes, and is not written.
-    // Refused for another grid, then for a shorter table. Every run that led here goes on by this call, accepted or refused,
-    // and then the link is as the run's log says.
+    // Begins a link, in place of any that there is. The table is to hold its nodes, and is not written. Refused for fewer than
+    // 2 or more than 33 grid points, then for a table shorter than `table_length`. Every run that led here goes on by this call,
+    // accepted or refused, and then the link is full exactly where the run's log says so.
     pub fn begin(&mut self, table: &[u16], grid: u32) -> Result<(), Refusal>
         ensures answer { let m = S.Stage.meaning self.old.stage in
             result ≡ answered (begin_refusal m grid (length table.now)) tt }
         ensures state { let begun = Filling (grid_with grid) 0 in
             self.new.state ≡ left (refused result) self.old.state begun }
         ensures stage { self.new.stage ≡ self.old.stage }
-        // the call with its refusal, then state and table before it and after it
+        // every run goes on by: the call, why it was refused, state and table before it, state and table after it
         ensures run { let m = S.Stage.meaning self.old.stage in
             Continues m (begin grid) (refused result)
             self.old.state table.now self.new.state table.now }
@@ -98,9 +103,10 @@ impl<S: Stage> Converter<S> {
     }
 
     // Stores the stage's answers at the next nodes, as many as the budget allows or as are missing, and writes nothing else.
-    // The last node makes the link full. Refused without a link, for a full one, then for a shorter table. Every run that led
-    // here goes on by this call, and then the link is as the run's log says: full exactly where the accepted budgets since the
-    // last begin reach the number of its nodes.
+    // Returns how many it stored and how many are missing still; the last one makes the link full. Refused without a link, for
+    // a full one, then for a table shorter than the link. Every run that led here goes on by this call, accepted or refused, and
+    // then the link is full exactly where the budgets of the accepted fills since the last accepted begin, with no drop after
+    // it, reach the number of its nodes.
     pub fn fill(&mut self, table: &mut [u16], budget: usize) -> Result<Filled, Refusal>
         ensures answer { let m = S.Stage.meaning self.old.stage in
             let refusal = fill_refusal m self.old.state budget (length table.old) in
@@ -112,7 +118,7 @@ impl<S: Stage> Converter<S> {
             let after = filled_table m self.old.state budget table.old in
             table.new ≡ left (refused result) table.old after }
         ensures stage { self.new.stage ≡ self.old.stage }
-        // the call with its refusal, then state and table before it and after it
+        // every run goes on by: the call, why it was refused, state and table before it, state and table after it
         ensures run { let m = S.Stage.meaning self.old.stage in
             Continues m (fill budget) (refused result)
             self.old.state table.old self.new.state table.new }
@@ -123,23 +129,24 @@ impl<S: Stage> Converter<S> {
         Ok(nodes.filled)
     }
 
-    // Sends a row through the stage, each pixel that enters to its place of the leaving row. Returns the error bound, in
-    // grains, that every count delivered keeps. Refused for other channels than the stage's, then for rows of two lengths.
-    // After every run that led here, over any table, an accepted row delivers within the bound returned. The run goes on by
-    // this call, which leaves link and table as they are.
+    // Sends a row through the stage, each pixel that enters to its place of the leaving row. Returns the bound: no channel that
+    // an accepted row delivers is further from the stage's exact value. Refused for other channels than the stage's, then for
+    // rows of two lengths. So it is after every run too, over any table; the run goes on by this call, accepted or refused, and
+    // link and table stay as they are.
     pub fn row<P: Pixel, Q: Pixel>(&self, entering: &[P], leaving: &mut [Q]) -> Result<u32, Refusal>
         ensures answer { let m = S.Stage.meaning self.now.stage in
             result ≡ row_answer m P.Pixel.kind Q.Pixel.kind entering.now leaving.old }
         ensures leaving { let m = S.Stage.meaning self.now.stage in
-            leaving.new ≡ row_left m P.Pixel.kind Q.Pixel.kind entering.now leaving.old }
-        // no channel that leaves is further than the bound from the stage's exact value
+            let pixels = row_pixels m P.Pixel.kind Q.Pixel.kind entering.now in
+            leaving.new ≡ left (refused result) leaving.old pixels }
+        // if it is accepted, no channel that leaves is further than the bound from the stage's exact value
         ensures within { let m = S.Stage.meaning self.now.stage in
             Accepted result (Delivers m P.Pixel.kind Q.Pixel.kind entering.now leaving.new) }
-        // the same after every run that led here, over any table, with the link as its log says
+        // the same after every run that led here, over any table, and the link is full exactly where the log says so
         ensures law { let m = S.Stage.meaning self.now.stage in
             (table : List ℕ) → AfterRuns m self.now.state table
             (Accepted result (Delivers m P.Pixel.kind Q.Pixel.kind entering.now leaving.new)) }
-        // the call with its refusal, then state and table before it and after it
+        // every run goes on by: the call, why it was refused, state and table before it, state and table after it
         ensures run { let m = S.Stage.meaning self.now.stage in
             let shape = shape_of P.Pixel.kind Q.Pixel.kind entering.now leaving.old in
             (table : List ℕ) → Continues m (row shape) (refused result)
@@ -151,11 +158,12 @@ impl<S: Stage> Converter<S> {
         Ok(self.deliver_directly(entering, leaving))
     }
 
-    // Sends a row through the full link. Returns the error bound, in grains, that every count delivered keeps, beside the
-    // exact value of the stage itself. Refused as a row is, then without a link, for one that is filling, and for a shorter
-    // table. After every run that led here, over the table that it left, an accepted link row delivers within the bound
-    // returned, and the run goes on by this call. The clause `promise` says the whole: what every run upholds of the link, and
-    // of the rows and link rows that come next.
+    // Sends a row through the full link. Refused as a row is, then without a link, for one that is filling, then for a table
+    // shorter than the link. Returns a bound. Where a run led here and the table is the one that it left, no channel that an
+    // accepted link row delivers is further from the exact value of the stage itself; over a table that somebody else has
+    // written, nothing is promised of that bound. The run goes on by this call, accepted or refused, and link and table stay as
+    // they are. The clause `promise` says of all runs together when the link is full, and what the rows and link rows that
+    // come next deliver.
     pub fn link_row<P: Pixel, Q: Pixel>(
         &self,
         table: &[u16],
@@ -166,19 +174,22 @@ impl<S: Stage> Converter<S> {
             result ≡ link_row_answer m self.now.state table.now P.Pixel.kind Q.Pixel.kind
             entering.now leaving.old }
         ensures leaving { let m = S.Stage.meaning self.now.stage in
-            leaving.new ≡ link_row_left m self.now.state table.now P.Pixel.kind Q.Pixel.kind
-            entering.now leaving.old }
-        // after every run that led here, no channel that leaves is further than the bound from the stage's exact value
+            let linked = table_link m self.now.state table.now in
+            let pixels = row_pixels linked P.Pixel.kind Q.Pixel.kind entering.now in
+            leaving.new ≡ left (refused result) leaving.old pixels }
+        // after every run that led here: if it is accepted, no channel that leaves is further than the bound from the
+        // stage's exact value; and the link is full exactly where the log says so
         ensures law { let m = S.Stage.meaning self.now.stage in
             AfterRuns m self.now.state table.now
             (Accepted result (Delivers m P.Pixel.kind Q.Pixel.kind entering.now leaving.new)) }
-        // the call with its refusal, then state and table before it and after it
+        // every run goes on by: the call, why it was refused, state and table before it, state and table after it
         ensures run { let m = S.Stage.meaning self.now.stage in
             let shape = shape_of P.Pixel.kind Q.Pixel.kind entering.now leaving.old in
             Continues m (link_row shape) (refused result)
             self.now.state table.now self.now.state table.now }
-        // the whole promise of a converter over this stage, for pixels of these two kinds: after every run over every table,
-        // the link is as its log says, and any row or link row that comes next delivers within the bound that it returns
+        // of every run, over every table, and of any two rows of these kinds that enter and leave next: the link is full
+        // exactly where the log says so, and what a row and a link row then answer and leave (as `answer` and `leaving` of
+        // these two calls say) delivers, if it is accepted, every channel within the bound answered
         ensures promise { let m = S.Stage.meaning self.now.stage in
             EveryRunUpholds m P.Pixel.kind Q.Pixel.kind }
     {
@@ -189,11 +200,11 @@ impl<S: Stage> Converter<S> {
         Ok(self.deliver_through(link, entering, leaving))
     }
 
-    // The error bounds: the stage's, and that of the link if one is filling or full. Never refused. Every run that led here goes
-    // on by this call, which leaves link and table as they are.
+    // The errors of the stage, and of the link if one is filling or full; with the leaving kind's added, they are the bounds of
+    // rows and link rows. Never refused. Every run that led here goes on by this call, and link and table stay as they are.
     pub fn quote(&self) -> Quote
         ensures answer { result ≡ quoted (S.Stage.meaning self.now.stage) self.now.state }
-        // the call with its refusal, then state and table before it and after it
+        // every run goes on by: the call, why it was refused, state and table before it, state and table after it
         ensures run { let m = S.Stage.meaning self.now.stage in
             (table : List ℕ) → Continues m quote None self.now.state table self.now.state table }
     {
@@ -209,8 +220,9 @@ impl<S: Stage> Converter<S> {
     }
 
     // Writes the full link as a lut16 element at the front of the output, and returns how many bytes it has. Refused without
-    // a link, for one that is filling, for a shorter table, then for a shorter output. What is written reads back as the link.
-    // Every run that led here goes on by this call, which leaves link and table as they are.
+    // a link, for one that is filling, for a table shorter than the link, then for an output shorter than `element_length`. The
+    // bytes after the element stay. Every run that led here goes on by this call, accepted or refused, and link and table stay as
+    // they are.
     pub fn write(&self, table: &[u16], output: &mut [u8]) -> Result<usize, Refusal>
         ensures answer { let m = S.Stage.meaning self.now.stage in
             let s = self.now.state in
@@ -219,12 +231,13 @@ impl<S: Stage> Converter<S> {
         ensures output { let m = S.Stage.meaning self.now.stage in
             let after = written_output m self.now.state table.now output.old in
             output.new ≡ left (refused result) output.old after }
-        // what is written opens as an element again, with the same grid and nodes, which answers every colour as the link
+        // what is written opens as a lut16 element again, with the link's grid and nodes, which answers every colour as the
+        // link does
         ensures back { let m = S.Stage.meaning self.now.stage in
             let nodes = take (link_numbers m self.now.state) table.now in
             Accepted result (λ long.
             ReadsBack m.ins m.outs (grid_points self.now.state) nodes (take long output.new)) }
-        // the call with its refusal, then state and table before it and after it
+        // every run goes on by: the call, why it was refused, state and table before it, state and table after it
         ensures run { let m = S.Stage.meaning self.now.stage in
             Continues m (write (length output.old)) (refused result)
             self.now.state table.now self.now.state table.now }
@@ -258,7 +271,7 @@ impl<S: Stage> Converter<S> {
     pub fn drop_link(&mut self)
         ensures state { self.new.state ≡ Empty }
         ensures stage { self.new.stage ≡ self.old.stage }
-        // the call with its refusal, then state and table before it and after it
+        // every run goes on by: the call, why it was refused, state and table before it, state and table after it
         ensures run { let m = S.Stage.meaning self.old.stage in
             (table : List ℕ) → Continues m drop_link None
             self.old.state table self.new.state table }
