@@ -60,8 +60,8 @@ fn measured_figures() -> Option<Measured<6>>
 
 // The worked lattice of three channels: three answers and its steepness.
 fn measured_cube() -> Option<Measured<4>>
-    ensures { let measured = λ shown. map (λ figure. figure.measured) shown.0 in
-        option_map measured result ≡ Some cube_figures }
+    ensures { option_map (λ shown. map (λ figure. figure.measured) shown.0) result
+        ≡ Some cube_figures }
 {
     let cube = Lattice::new(
         Channels::Three,
@@ -91,8 +91,8 @@ fn measured_cube() -> Option<Measured<4>>
 
 // The worked lattice of four channels: one answer.
 fn measured_fading_cube() -> Option<Measured<1>>
-    ensures { let measured = λ shown. map (λ figure. figure.measured) shown.0 in
-        option_map measured result ≡ Some fading_figures }
+    ensures { option_map (λ shown. map (λ figure. figure.measured) shown.0) result
+        ≡ Some fading_figures }
 {
     let fading = Lattice::new(
         Channels::Four,
