@@ -220,7 +220,9 @@ pub fn open_chain<'a>(
     first: &Source<'a>,
     rest: &[Source<'a>],
 ) -> Result<ElementChain<'a>, ChainError>
+    // The answer, for every room and whatever the profiles hold.
     ensures value { answered chain_view result ≡ opened_within room.entry first.now rest.now }
+    // And what it says of them: which of them open and meet, and what is wrong with the next one.
     ensures says { Says room.entry (first.now ∷ rest.now) (answered chain_view result) }
 {
     if !room.suffices(rest.len()) {

@@ -29,6 +29,7 @@ impl Header {
     // nor an element is looked at.
     pub fn read(bytes: &[u8]) -> Result<Header, Fault>
         ensures value { result ≡ ruled (header_checks bytes.now) (header bytes.now) }
+        // Then the file goes on to where its records begin.
         ensures long { IfOk result (λ _. 132 ≤ length bytes.now) }
     {
         if !length_fits(bytes) {

@@ -73,6 +73,7 @@ pub fn open(bytes: &[u8], tag: Tag) -> Result<Opened<'_>, Fault>
         TakenFrom bytes.now (signature tag) (element_view opened.element)) }
     // Each table is a part of the file, with all its entries.
     ensures parts { IfOk result (λ opened. TablesOf bytes.now (element_view opened.element)) }
+    // Of the checks that fail, the first is told.
     ensures first { IfErr result (λ fault. FirstFailing (checks bytes.now tag) fault) }
 {
     Opened::read(bytes, tag)
