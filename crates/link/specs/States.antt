@@ -1,6 +1,5 @@
 -- The states of a converter's link, and what each event comes to in each state.
 use Rattle.std.specs.Prelude.{ℕ, ◌+◌, ◌-◌, ◌^◌, ◌<◌, ◌≤◌, cond, min, Bool, true, false, Some, None, Option, Result, nat_lt}
-use Rattle.std.proofs.Props.{props}
 use Rattle.meaning.specs.declared.Channels.{Channels}
 use Rattle.meaning.specs.Colours.{number}
 use Rattle.stage.specs.declared.lattice.Grid.{Grid}
@@ -130,9 +129,3 @@ abbrev pub IsSound : Channels → State → Type 0
 IsSound i Empty = Unit {0}
 IsSound i (Filling g n) = (2 ≤ points g) × (n < points g ^ number i)
 IsSound i (Full g) = 2 ≤ points g
-
--- there is one way to be so
-pub sound_once : (i : Channels) (s : State) → IsProp (IsSound i s)
-sound_once i Empty = hlevel props
-sound_once i (Filling g n) = hlevel props
-sound_once i (Full g) = hlevel props

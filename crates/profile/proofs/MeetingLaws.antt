@@ -12,7 +12,7 @@ use Rattle.profile.specs.declared.space.Space.{Space}
 use Rattle.profile.specs.declared.space.Space.TheVariants.{Gray, Rgb, Cmyk, Lab, Xyz}
 use Rattle.profile.specs.Chaining.{Chained, begun, joined_on, lengthened, next_position, offered, opened_chain, opened_within}
 use Rattle.profile.specs.ChainViews.{answered, chain_view}
-use Rattle.profile.specs.Meetings.{MeetFrom, Meet, OpenAndMeet, Reached, Says}
+use Rattle.profile.specs.Meetings.{MeetFrom, Meet, OpenAndMeet, OpenUntil, Says}
 use Rattle.profile.specs.Opening.{Opening}
 use Rattle.profile.specs.Spaces.{letters}
 use Rattle.profile.proofs.ChainingLaws.{stuck}
@@ -88,7 +88,7 @@ module _ (room : ℕ) where
   Continues later = (earlier : List Source) (c : Chained) → Made earlier c → Says room (earlier ++ later) (fold joined_on (Ok c) later)
 
   module _ (earlier : List Source) (c : Chained) (m : Made earlier c) (s : Source) (later : List Source) where
-    reached : Reached (earlier ++ (s ∷ later)) (next_position c) s (m.earlier ++ (m.last ∷ []))
+    reached : OpenUntil (earlier ++ (s ∷ later)) (next_position c) s (m.earlier ++ (m.last ∷ []))
     reached = record { earlier = earlier; later = later; split = refl; position = m.count; before = m.profiles }
 
     faulty : (f : Fault) → offered s ≡ Err f → Says room (earlier ++ (s ∷ later)) (fold joined_on (Err (Profile (next_position c) f)) later)

@@ -24,7 +24,7 @@ pub record OpenAndMeet (sources : List Source) (openings : List Opening) : Type 
   pub meet : Meet openings
 
 -- the profile at position k is s, and those before it open and meet
-pub record Reached (sources : List Source) (k : ℕ) (s : Source) (openings : List Opening) : Type 0 where
+pub record OpenUntil (sources : List Source) (k : ℕ) (s : Source) (openings : List Opening) : Type 0 where
   pub earlier : List Source
   pub later : List Source
   pub split : sources ≡ earlier ++ (s ∷ later)
@@ -35,7 +35,7 @@ pub record Reached (sources : List Source) (k : ℕ) (s : Source) (openings : Li
 pub record FaultAt (sources : List Source) (k : ℕ) (f : Fault) : Type 0 where
   pub source : Source
   pub openings : List Opening
-  pub reached : Reached sources k source openings
+  pub reached : OpenUntil sources k source openings
   pub fault : offered source ≡ Err f
 
 -- the profile at position k opens, and does not take the space that the one before it gives
@@ -44,7 +44,7 @@ pub record ApartAt (sources : List Source) (k : ℕ) : Type 0 where
   pub earlier : List Opening
   pub before : Opening
   pub opening : Opening
-  pub reached : Reached sources k source (earlier ++ (before ∷ []))
+  pub reached : OpenUntil sources k source (earlier ++ (before ∷ []))
   pub opened : offered source ≡ Ok opening
   pub apart : opening.takes ≢ before.gives
 
