@@ -2,7 +2,6 @@
 use crate::job::ProfileTask;
 use anyhow::{Context, bail};
 use profile::{ChainError, ChainRoom, ElementChain, Report, Source, open_chain};
-use std::alloc::Global;
 use std::{fmt, fs};
 
 // Why profiles are not opened, as a sentence.
@@ -12,7 +11,7 @@ struct NotOpened(ChainError);
 impl fmt::Display for NotOpened {
     fn fmt<W: fmt::Write>(&self, f: &mut fmt::Formatter<W>) -> fmt::Result {
         let Some(Report { number, position }) = self.0.report() else {
-            return f.write_str("there is not enough memory");
+            return f.write_str("there is room for fewer profiles");
         };
         write!(f, "profile {position}, counted from 0: fault {number}, ")?;
         match self.0 {
@@ -49,16 +48,6 @@ pub(crate) fn files_of(
     Ok(files)
 }
 
-// The chain of one profile and those behind it. Where memory for it is wanting, there is no room.
-fn chain_of<'a>(
-    heap: Global,
-    first: &Source<'a>,
-    rest: &[Source<'a>],
-) -> Result<ElementChain<'a>, NotOpened> {
-    let room = ChainRoom::new(heap, rest.len() + 1).map_err(|_| NotOpened(ChainError::Room))?;
-    open_chain(room, first, rest).map_err(NotOpened)
-}
-
 // The chain of the profiles, or a sentence that says which fault which of them has.
 pub(crate) fn opened<'a>(
     rt: &HostRuntime,
@@ -76,7 +65,8 @@ pub(crate) fn opened<'a>(
         .as_slice()
         .split_first()
         .context("a chain has one profile or more")?;
-    match chain_of(rt.alloc(), first, rest) {
+    let slots = Vec::with_capacity(rt.alloc(), ChainRoom::slots(sources.len()))?;
+    match open_chain(ChainRoom::over(slots), first, rest).map_err(NotOpened) {
         Ok(chain) => Ok(chain),
         Err(error) => {
             println!(rt; "  not opened, {error}")?;

@@ -97,6 +97,6 @@ pub(crate) fn opened<'f, 'a>(
     let Some((first, rest)) = sources.as_slice().split_first() else {
         return Err(Failure::NoChain);
     };
-    let room = ChainRoom::new(rt.alloc(), sources.len())?;
-    open_chain(room, first, rest).map_err(|error| failure_of(profiles, files, error))
+    let slots = Vec::with_capacity(rt.alloc(), ChainRoom::slots(sources.len()))?;
+    open_chain(ChainRoom::over(slots), first, rest).map_err(|error| failure_of(profiles, files, error))
 }

@@ -110,11 +110,11 @@ module _ (m : Meaning) where
   link_length s = written_length m.ins m.outs (link_numbers s)
 
   -- how many bytes a link with that grid has when it is written, and the link that there is, if there is one
-  abbrev pub length_with : Grid → ℕ
-  length_with grid = written_length m.ins m.outs (numbers_of (points grid))
+  abbrev pub bytes_with : Grid → ℕ
+  bytes_with grid = written_length m.ins m.outs (numbers_of (points grid))
 
   abbrev pub element_length : State → Option ℕ
-  element_length s = option_map length_with (link_grid s)
+  element_length s = option_map bytes_with (link_grid s)
 
   abbrev pub write_refusal : State → ℕ → ℕ → Option Refusal
   write_refusal s numbers room =

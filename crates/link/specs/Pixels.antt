@@ -1,6 +1,5 @@
 -- The pixel kinds: gray, RGB and CMYK over any width of a channel, and the four that programs use.
 use Rattle.std.specs.Prelude.{ℕ, List, [], ◌∷◌}
-use Rattle.meaning.specs.declared.Channels.{Channels}
 use Rattle.meaning.specs.declared.Channels.TheVariants.{One, Three, Four}
 use Rattle.meaning.specs.Kinds.{Kind, stored}
 use Rattle.meaning.specs.Samples.{Width, eight_bits, sixteen_bits}

@@ -152,7 +152,8 @@ pub record LinkAsLogged (m : Meaning) (log : Log) (s : State) (t : List ℕ) : T
 -- ---- the promise over whole runs
 
 -- what a run upholds for pixels of two kinds, where it has led to a state and a table. What a row and a link row answer and
--- leave is defined in Rows and Calls, and is what the calls promise to answer and leave
+-- leave is defined in Rows and Calls: `row_left` and `link_row_left` are the row as it stood where the call is refused, and
+-- else the pixels, as the calls' clauses `leaving` have it
 pub record Upheld {P Q : Type 0} (m : Meaning) (kp : Kind P) (kq : Kind Q) (log : Log) (s : State) (t : List ℕ) : Type 0 where
   -- the link is full exactly where the log says so, and then holds the stage's answers
   pub link : LinkAsLogged m log s t

@@ -103,10 +103,10 @@ impl<S: Stage> Converter<S> {
     }
 
     // Stores the stage's answers at the next nodes, as many as the budget allows or as are missing, and writes nothing else.
-    // Returns how many it stored and how many are missing still; the last one makes the link full. Refused without a link, for
-    // a full one, then for a table shorter than the link. Every run that led here goes on by this call, accepted or refused, and
-    // then the link is full exactly where the budgets of the accepted fills since the last accepted begin, with no drop after
-    // it, reach the number of its nodes.
+    // Returns how many it stored and how many are missing still; the last one makes the link full. A budget of 0 stores none.
+    // Refused without a link, for a full one, then for a table shorter than the link. Every run that led here goes on by this
+    // call, accepted or refused, and then the link is full exactly where the budgets of the accepted fills since the last
+    // accepted begin, with no drop after it, reach the number of its nodes.
     pub fn fill(&mut self, table: &mut [u16], budget: usize) -> Result<Filled, Refusal>
         ensures answer { let m = S.Stage.meaning self.old.stage in
             let refusal = fill_refusal m self.old.state budget (length table.old) in
@@ -123,10 +123,10 @@ impl<S: Stage> Converter<S> {
             Continues m (fill budget) (refused result)
             self.old.state table.old self.new.state table.new }
     {
-        let (after, nodes) = self.fill_of(budget, table.len())?;
-        self.store(&nodes, table);
+        let (after, stores) = self.fill_of(budget, table.len())?;
+        self.store(&stores, table);
         self.state = after;
-        Ok(nodes.filled)
+        Ok(stores.filled)
     }
 
     // Sends a row through the stage, each pixel that enters to its place of the leaving row. Returns the bound: no channel that
@@ -155,13 +155,14 @@ impl<S: Stage> Converter<S> {
         if let Some(refusal) = self.pixels_refused(entering, leaving) {
             return Err(refusal);
         }
+        self.decide(Event::Row)?;
         Ok(self.deliver_directly(entering, leaving))
     }
 
     // Sends a row through the full link. Refused as a row is, then without a link, for one that is filling, then for a table
     // shorter than the link. Returns a bound. Where a run led here and the table is the one that it left, no channel that an
-    // accepted link row delivers is further from the exact value of the stage itself; over a table that somebody else has
-    // written, nothing is promised of that bound. The run goes on by this call, accepted or refused, and link and table stay as
+    // accepted link row delivers is further from the exact value of the stage itself; over any other table, nothing is promised
+    // of that bound. The run goes on by this call, accepted or refused, and link and table stay as
     // they are. The clause `promise` says of all runs together when the link is full, and what the rows and link rows that
     // come next deliver.
     pub fn link_row<P: Pixel, Q: Pixel>(
@@ -188,8 +189,9 @@ impl<S: Stage> Converter<S> {
             Continues m (link_row shape) (refused result)
             self.now.state table.now self.now.state table.now }
         // of every run, over every table, and of any two rows of these kinds that enter and leave next: the link is full
-        // exactly where the log says so, and what a row and a link row then answer and leave (as `answer` and `leaving` of
-        // these two calls say) delivers, if it is accepted, every channel within the bound answered
+        // exactly where the log says so, and then holds the stage's answers; and what a row and a link row answer and leave
+        // next (as `answer` and `leaving` of these two calls say) delivers, if it is accepted, every channel within the bound
+        // answered of the stage's exact value
         ensures promise { let m = S.Stage.meaning self.now.stage in
             EveryRunUpholds m P.Pixel.kind Q.Pixel.kind }
     {
@@ -216,7 +218,7 @@ impl<S: Stage> Converter<S> {
         ensures { result ≡ element_length (S.Stage.meaning self.now.stage) self.now.state }
     {
         let grid = self.state.grid()?;
-        Some(self.length_with(grid))
+        Some(self.bytes_with(grid))
     }
 
     // Writes the full link as a lut16 element at the front of the output, and returns how many bytes it has. Refused without
@@ -248,7 +250,7 @@ impl<S: Stage> Converter<S> {
     }
 
     // Writes the full link, opens what was written as an element, and returns what that element answers to a colour: exactly
-    // what the link answers. Refused as a write is.
+    // what the link answers, whatever stands beyond its in-channels. Refused as a write is, and leaves the output as one.
     pub fn read_back(
         &self,
         table: &[u16],

@@ -7,11 +7,11 @@ ghost use Rattle.meaning.specs.Links.{link};
 ghost use Rattle.stage.specs.Lattices.{grid_with, points};
 ghost use Rattle.link.specs.declared.refusal.Refusal.TheVariants.{TableLength};
 ghost use Rattle.link.specs.declared.state.State.TheVariants.{Empty, Filling};
-ghost use Rattle.link.specs.Calls.{numbers_of, begin_refusal, link_checks, link_grid_of, link_length, link_numbers, write_refusal, fill_refusal, next_node, stored_table, error_with, length_with};
+ghost use Rattle.link.specs.Calls.{numbers_of, begin_refusal, link_checks, link_grid_of, link_length, link_numbers, write_refusal, fill_refusal, next_node, stored_table, error_with, bytes_with};
 ghost use Rattle.link.specs.Rows.{row_bound, row_pixels, row_refusal, shape_of};
 ghost use Rattle.link.specs.Refusals.{answered, first_refusal, refused, unless};
 ghost use Rattle.link.specs.Written.{written, written_length};
-ghost use Rattle.link.specs.States.{filled, filled_state, grid_points, link_grid, no_use, uses_link};
+ghost use Rattle.link.specs.States.{decided, filled, filled_state, grid_points, link_grid, no_use, uses_link};
 
 use crate::answers::Quote;
 use crate::converter::Converter;
@@ -20,7 +20,7 @@ use crate::lent::LentLink;
 use crate::pixel::Pixel;
 use crate::refusal::Refusal;
 use crate::rows::deliver;
-use crate::state::{Event, State, Stores};
+use crate::state::{Event, Outcome, State, Stores};
 use crate::writing::{write_element, written_length};
 use meaning::link_error;
 use stage::{Grid, Rated, Stage, lattice_entries};
@@ -70,6 +70,13 @@ impl<S: Stage> Converter<S> {
         }
     }
 
+    // What an event comes to in the state that there is.
+    pub(crate) fn decide(&self, event: Event) -> Result<Outcome, Refusal>
+        ensures { result ≡ decided (S.Stage.meaning self.now.stage).ins self.now.state event }
+    {
+        self.state.decide(self.stage.ins(), event)
+    }
+
     // How many numbers a link with so many grid points has.
     pub(crate) fn numbers_of(&self, points: u8) -> usize
         ensures value { result ≡ numbers_of (S.Stage.meaning self.now.stage) points }
@@ -99,7 +106,7 @@ impl<S: Stage> Converter<S> {
     {
         let grid = grid_of_link(grid).ok_or(Refusal::GridPoints)?;
         self.check_table(grid, numbers)?;
-        let outcome = self.state.decide(self.stage.ins(), Event::Begin { grid })?;
+        let outcome = self.decide(Event::Begin { grid })?;
         Ok(outcome.state)
     }
 
@@ -115,27 +122,27 @@ impl<S: Stage> Converter<S> {
         ensures first { let m = S.Stage.meaning self.now.stage in
             IfOk result (λ fill. fill.1.first ≡ next_node m self.now.state) }
     {
-        let outcome = self.state.decide(self.stage.ins(), Event::Fill { budget })?;
+        let outcome = self.decide(Event::Fill { budget })?;
         let stores = outcome.stores.unwrap();
         self.check_table(stores.grid, numbers)?;
         Ok((outcome.state, stores))
     }
 
     // Stores the stage's answers at some nodes, in the part of the table that holds just them.
-    pub(crate) fn store(&self, nodes: &Stores, table: &mut [u16])
-        requires some { 2 ≤ points nodes.now.grid }
+    pub(crate) fn store(&self, stores: &Stores, table: &mut [u16])
+        requires some { 2 ≤ points stores.now.grid }
         requires inside { let m = S.Stage.meaning self.now.stage in
-            nodes.now.first + nodes.now.filled.stored ≤ points nodes.now.grid ^ number m.ins }
+            stores.now.first + stores.now.filled.stored ≤ points stores.now.grid ^ number m.ins }
         requires room { let m = S.Stage.meaning self.now.stage in
-            numbers_of m (points nodes.now.grid) ≤ length table.old }
+            numbers_of m (points stores.now.grid) ≤ length table.old }
         ensures { let m = S.Stage.meaning self.now.stage in
-            let grid = points nodes.now.grid in
-            table.new ≡ stored_table m grid nodes.now.first nodes.now.filled.stored table.old }
+            let grid = points stores.now.grid in
+            table.new ≡ stored_table m grid stores.now.first stores.now.filled.stored table.old }
     {
         let outs = self.stage.outs().number();
-        let (first, count) = (nodes.first, nodes.filled.stored);
+        let (first, count) = (stores.first, stores.filled.stored);
         let part = &mut table[first * outs..(first + count) * outs];
-        store(&self.stage, nodes.grid, first, count, part);
+        store(&self.stage, stores.grid, first, count, part);
     }
 
     // The grid of the full link, for an event that uses it.
@@ -188,8 +195,6 @@ impl<S: Stage> Converter<S> {
         ensures leaving { let m = S.Stage.meaning self.now.stage in
             leaving.new ≡ row_pixels m P.Pixel.kind Q.Pixel.kind entering.now }
     {
-        // every state takes a row, and stays as it is
-        let _ = self.state.decide(self.stage.ins(), Event::Row).unwrap();
         deliver(&self.stage, self.stage.error(), entering, leaving)
     }
 
@@ -219,8 +224,8 @@ impl<S: Stage> Converter<S> {
     }
 
     // How many bytes a link with that grid has when it is written.
-    pub(crate) fn length_with(&self, grid: Grid) -> usize
-        ensures { result ≡ length_with (S.Stage.meaning self.now.stage) grid }
+    pub(crate) fn bytes_with(&self, grid: Grid) -> usize
+        ensures { result ≡ bytes_with (S.Stage.meaning self.now.stage) grid }
     {
         let numbers = self.numbers_of(grid.points());
         written_length(self.stage.ins(), self.stage.outs(), numbers)
@@ -232,7 +237,7 @@ impl<S: Stage> Converter<S> {
         ensures link { let m = S.Stage.meaning self.now.stage in
             result.link ≡ option_map (error_with m) (link_grid self.now.state) }
     {
-        let outcome = self.state.decide(self.stage.ins(), Event::Quote).unwrap();
+        let outcome = self.decide(Event::Quote).unwrap();
         Quote {
             stage: self.stage.error(),
             link: outcome.link.map(|grid| self.error_with(grid)),
@@ -248,17 +253,17 @@ impl<S: Stage> Converter<S> {
         ensures refused { let m = S.Stage.meaning self.now.stage in
             refused result ≡ write_refusal m self.now.state (length table.now) room }
         ensures length { let m = S.Stage.meaning self.now.stage in
-            IfOk result (λ written. written.1 ≡ link_length m self.now.state) }
-        ensures grid { IfOk result (λ written. points written.0.grid ≡ grid_points self.now.state) }
-        ensures some { IfOk result (λ written. 2 ≤ points written.0.grid) }
+            IfOk result (λ link. link.1 ≡ link_length m self.now.state) }
+        ensures grid { IfOk result (λ link. points link.0.grid ≡ grid_points self.now.state) }
+        ensures some { IfOk result (λ link. 2 ≤ points link.0.grid) }
         ensures long { let m = S.Stage.meaning self.now.stage in
-            IfOk result (λ written. length written.0.nodes.now ≡ link_numbers m self.now.state) }
+            IfOk result (λ link. length link.0.nodes.now ≡ link_numbers m self.now.state) }
         ensures nodes { let m = S.Stage.meaning self.now.stage in
             let nodes = take (link_numbers m self.now.state) table.now in
-            IfOk result (λ written. written.0.nodes.now ≡ nodes) }
+            IfOk result (λ link. link.0.nodes.now ≡ nodes) }
     {
         let link = self.lent(Event::Write, table)?;
-        let length = self.length_with(link.grid);
+        let length = self.bytes_with(link.grid);
         if length > room {
             return Err(Refusal::OutputLength);
         }

@@ -90,7 +90,8 @@ pub(crate) fn chain_of<'a>(
         .iter()
         .map(|profile| profile.source())
         .collect(heap)?;
-    let room = ChainRoom::new(heap, rest.len() + 1)?;
+    let slots = Vec::with_capacity(heap, ChainRoom::slots(rest.len() + 1))?;
+    let room = ChainRoom::over(slots);
     Ok(open_chain(room, &profiles.first.source(), rest.as_slice()))
 }
 

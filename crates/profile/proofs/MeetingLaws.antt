@@ -11,7 +11,7 @@ use Rattle.profile.specs.declared.fault.Fault.{Fault}
 use Rattle.profile.specs.declared.space.Space.{Space}
 use Rattle.profile.specs.declared.space.Space.TheVariants.{Gray, Rgb, Cmyk, Lab, Xyz}
 use Rattle.profile.specs.Chaining.{Chained, begun, joined_on, lengthened, next_position, offered, opened_chain, opened_within}
-use Rattle.profile.specs.ChainViews.{answered, chain_view}
+use Rattle.profile.specs.ChainViews.{chain_answer, chain_view}
 use Rattle.profile.specs.Meetings.{MeetFrom, Meet, OpenAndMeet, OpenUntil, Says}
 use Rattle.profile.specs.Opening.{Opening}
 use Rattle.profile.specs.Spaces.{letters}
@@ -55,7 +55,7 @@ meet_more [] o p h e = (e, tt)
 meet_more (q ∷ os) o p h e = meet_from_more q.gives os o p h e
 
 -- a chain of the profiles so far, and the openings that it is made of, the last one apart
-record Made (sources : List Source) (c : Chained) : Type 0 where
+record MadeOf (sources : List Source) (c : Chained) : Type 0 where
   pub earlier : List Opening
   pub last : Opening
   pub profiles : OpenAndMeet sources (earlier ++ (last ∷ []))
@@ -63,7 +63,7 @@ record Made (sources : List Source) (c : Chained) : Type 0 where
   pub gives : c.gives ≡ last.gives
   pub count : next_position c ≡ length sources
 
-one_more : (sources : List Source) (c : Chained) (s : Source) (o : Opening) → Made sources c → offered s ≡ Ok o → letters o.takes == letters c.gives ≡ true → Made (sources ++ (s ∷ [])) (record { first = c.first; rest = c.rest ++ (o.element ∷ []); gives = o.gives })
+one_more : (sources : List Source) (c : Chained) (s : Source) (o : Opening) → MadeOf sources c → offered s ≡ Ok o → letters o.takes == letters c.gives ≡ true → MadeOf (sources ++ (s ∷ [])) (record { first = c.first; rest = c.rest ++ (o.element ∷ []); gives = o.gives })
 one_more sources c s o m opens meets =
     let openings = m.earlier ++ (m.last ∷ []) in
     record {
@@ -84,10 +84,10 @@ one_more sources c s o m opens meets =
 
 module _ (room : ℕ) where
   -- what is said where the profiles so far make a chain and the later ones are still to be opened
-  abbrev Continues : List Source → Type 0
-  Continues later = (earlier : List Source) (c : Chained) → Made earlier c → Says room (earlier ++ later) (fold joined_on (Ok c) later)
+  abbrev SaysLater : List Source → Type 0
+  SaysLater later = (earlier : List Source) (c : Chained) → MadeOf earlier c → Says room (earlier ++ later) (fold joined_on (Ok c) later)
 
-  module _ (earlier : List Source) (c : Chained) (m : Made earlier c) (s : Source) (later : List Source) where
+  module _ (earlier : List Source) (c : Chained) (m : MadeOf earlier c) (s : Source) (later : List Source) where
     reached : OpenUntil (earlier ++ (s ∷ later)) (next_position c) s (m.earlier ++ (m.last ∷ []))
     reached = record { earlier = earlier; later = later; split = refl; position = m.count; before = m.profiles }
 
@@ -99,17 +99,17 @@ module _ (room : ℕ) where
         let gives : letters o.takes ≡ letters c.gives = ap letters (same ∙ sym m.gives) in
         grind (arith, gives)
 
-    compared : Continues later → (o : Opening) → offered s ≡ Ok o → (b : Bool) → letters o.takes == letters c.gives ≡ b → Says room (earlier ++ (s ∷ later)) (fold joined_on (cond b (Ok (record { first = c.first; rest = c.rest ++ (o.element ∷ []); gives = o.gives })) (Err (Spaces (next_position c)))) later)
+    compared : SaysLater later → (o : Opening) → offered s ≡ Ok o → (b : Bool) → letters o.takes == letters c.gives ≡ b → Says room (earlier ++ (s ∷ later)) (fold joined_on (cond b (Ok (record { first = c.first; rest = c.rest ++ (o.element ∷ []); gives = o.gives })) (Err (Spaces (next_position c)))) later)
     compared goes_on o opens true is =
         subst (λ sources. Says room sources (fold joined_on (Ok (record { first = c.first; rest = c.rest ++ (o.element ∷ []); gives = o.gives })) later)) (append_assoc earlier (s ∷ []) later) (goes_on (earlier ++ (s ∷ [])) _ (one_more earlier c s o m opens is))
     compared goes_on o opens false is =
         subst (Says room (earlier ++ (s ∷ later))) (sym (stuck (Spaces (next_position c)) later)) (record { source = s; earlier = m.earlier; before = m.last; opening = o; reached = reached; opened = opens; apart = differ o is })
 
-    offers : Continues later → (r : Result Opening Fault) → offered s ≡ r → Says room (earlier ++ (s ∷ later)) (fold joined_on (lengthened c r) later)
+    offers : SaysLater later → (r : Result Opening Fault) → offered s ≡ r → Says room (earlier ++ (s ∷ later)) (fold joined_on (lengthened c r) later)
     offers goes_on (Ok o) is = compared goes_on o is (letters o.takes == letters c.gives) refl
     offers goes_on (Err f) is = faulty f is
 
-  continues : (later : List Source) → Continues later
+  continues : (later : List Source) → SaysLater later
   continues [] earlier c m = rw append-nil (record { openings = m.earlier ++ (m.last ∷ []); profiles = m.profiles; elements = m.elements })
   continues (s ∷ later) earlier c m = offers earlier c m s later (continues later) (offered s) refl
 
@@ -128,5 +128,5 @@ module _ (room : ℕ) where
   says first rest = within first rest (nat_lt (length rest) room) refl
 
 -- and so what the code answers
-pub says_of : (room : ℕ) (first : Source) (rest : List Source) (r : Result ElementChain ChainError) → answered chain_view r ≡ opened_within room first rest → Says room (first ∷ rest) (answered chain_view r)
+pub says_of : (room : ℕ) (first : Source) (rest : List Source) (r : Result ElementChain ChainError) → chain_answer chain_view r ≡ opened_within room first rest → Says room (first ∷ rest) (chain_answer chain_view r)
 says_of room first rest r is = subst (Says room (first ∷ rest)) (sym is) (says room first rest)

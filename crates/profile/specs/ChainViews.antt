@@ -26,9 +26,9 @@ abbrev pub means : Chain Element → Meaning
 means c = chained (λ e. element_meaning (element_view e)) c.first.now c.rest.now
 
 -- what a call answers, a value of the code shown as lists
-abbrev pub answered : {A B : Type 0} → (A → B) → Result A ChainError → Result B ChainError
-answered view (Ok a) = Ok (view a)
-answered view (Err e) = Err e
+abbrev pub chain_answer : {A B : Type 0} → (A → B) → Result A ChainError → Result B ChainError
+chain_answer view (Ok a) = Ok (view a)
+chain_answer view (Err e) = Err e
 
 -- for how many further profiles a chain has room
 abbrev pub room_left : ElementChain → ℕ

@@ -1,4 +1,4 @@
--- The faults of a profile: each case with its number, its layer and its place in the file.
+-- The faults of a profile: each case with its number, its layer and its place in the bytes that were read: a file, or an element alone.
 use Rattle.std.specs.Prelude.{ℕ, ◌+◌}
 use Rattle.profile.specs.declared.fault.Layer.{Layer}
 use Rattle.profile.specs.declared.fault.Layer.TheVariants.{Header, Directory, Element}

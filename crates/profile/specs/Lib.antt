@@ -12,6 +12,7 @@ pub mod Views
 pub mod Elements
 pub mod Opening
 pub mod Chaining
+pub mod Rooms
 pub mod ChainViews
 pub mod Sentences
 pub mod Parts

@@ -1,9 +1,10 @@
 // Chains of profiles: their elements, opened in turn and run one after the other.
-ghost use Rattle.std.specs.Prelude.{◌≡◌, ◌+◌, ◌<◌, ◌≤◌, ◌∷◌, IsOk, IfOk, IfErr, length, nat_lt};
+ghost use Rattle.std.specs.Prelude.{◌≡◌, ◌+◌, ◌<◌, ◌≤◌, ◌∷◌, IfOk, IfErr, ℕ, length, nat_lt, vec_capacity};
 ghost use Rattle.profile.specs.Chaining.{begun, lengthened, next_position, offered, opened_chain, opened_within, reported};
-ghost use Rattle.profile.specs.ChainViews.{chain_view, chain_meaning, chain_lawful, means, answered, room_left};
+ghost use Rattle.profile.specs.ChainViews.{chain_view, chain_meaning, chain_lawful, means, chain_answer, room_left};
 ghost use Rattle.profile.specs.Meetings.{Says};
 ghost use Rattle.profile.specs.Opening.{viewed};
+ghost use Rattle.profile.specs.Rooms.{profiles_in, slots_for};
 
 use crate::element::Element;
 use crate::fault::Fault;
@@ -12,7 +13,6 @@ use crate::space::Space;
 use crate::tag::Tag;
 use meaning::Channels;
 use stage::{Chain, Colour, Stage};
-use std::alloc::{AllocError, Global};
 use std::marker::Model;
 
 // A profile to open: its bytes, and which element of it.
@@ -68,47 +68,53 @@ impl<'a> Source<'a> {
     }
 }
 
-// Room for a chain of so many profiles: memory that is set aside before any of them is looked at.
+// Room for the elements of a chain: memory that was set aside before any profile is looked at. Clauses see for how many profiles
+// it is.
 #[derive(Drop)]
 pub struct ChainRoom<'a> {
-    // That of the elements after the first one.
+    // For those after the first one.
     rest: Vec<Element<'a>>,
-    profiles: usize,
 }
 
 impl<'a> Model for ChainRoom<'a> {
-    ghost use Rattle.std.specs.Prelude.{◌≡◌, ℕ, ◌+◌, ◌≤◌, [], vec_capacity, vec_len};
+    ghost use Rattle.std.specs.Prelude.{◌≡◌, ℕ, [], vec_capacity, vec_len};
+    ghost use Rattle.profile.specs.Rooms.{profiles_in};
 
     ghost Value = { ℕ };
 
-    ghost view = { λ room. room.profiles };
+    ghost view = { λ room. profiles_in (vec_capacity room.rest) };
 
-    ghost invariant = { λ room.
-        (room.rest.items ≡ [])
-        × (vec_len room.rest ≡ 0)
-        × (room.profiles ≤ 1 + vec_capacity room.rest) };
+    ghost invariant = { λ room. (room.rest.items ≡ []) × (vec_len room.rest ≡ 0) };
 }
 
 impl<'a> ChainRoom<'a> {
-    // Sets the memory aside. One profile needs none.
-    pub fn new(heap: Global, profiles: usize) -> Result<ChainRoom<'a>, AllocError>
-        ensures profiles { IfOk result (λ room. room ≡ profiles) }
-        ensures alone { profiles ≤ 1 → IsOk result }
+    // How many slots the elements of so many profiles take: none for the first of them.
+    pub fn slots(profiles: usize) -> usize
+        ensures value { result ≡ slots_for profiles }
+        // whatever vector has so many slots is room for these profiles
+        ensures enough { (slots : ℕ) → result ≤ slots → profiles ≤ profiles_in slots }
     {
-        let rest = Vec::with_capacity(heap, profiles.saturating_sub(1))?;
-        Ok(ChainRoom { rest, profiles })
+        profiles.saturating_sub(1)
+    }
+
+    // Room in the slots of a vector, whatever it holds. It takes no memory.
+    pub fn over(mut slots: Vec<Element<'a>>) -> ChainRoom<'a>
+        ensures { result ≡ profiles_in (vec_capacity slots.entry) }
+    {
+        slots.clear();
+        ChainRoom { rest: slots }
     }
 
     // Whether it is large enough for one profile and so many after it.
     fn suffices(&self, further: usize) -> bool
         ensures { result ≡ nat_lt further self.now }
     {
-        further < self.profiles
+        further <= self.rest.capacity()
     }
 
     // The chain of one profile, with room for the others.
     fn begin(self, source: &Source<'a>) -> Result<ElementChain<'a>, ChainError>
-        ensures answer { answered chain_view result ≡ begun (offered source.now) }
+        ensures answer { chain_answer chain_view result ≡ begun (offered source.now) }
         ensures room { IfOk result (λ chain. self.entry ≤ 1 + room_left chain) }
     {
         let opened = source
@@ -141,7 +147,7 @@ impl<'a> ElementChain<'a> {
     // One profile more. A chain that refuses it stays as it was.
     fn join(&mut self, source: &Source<'a>) -> Result<(), ChainError>
         requires { 0 < room_left self.old }
-        ensures answer { answered (λ _. chain_view self.new) result
+        ensures answer { chain_answer (λ _. chain_view self.new) result
             ≡ lengthened (chain_view self.old) (offered source.now) }
         ensures position { IfOk result (λ _.
             next_position (chain_view self.new) ≡ next_position (chain_view self.old) + 1) }
@@ -202,7 +208,7 @@ fn open_all<'a>(
     rest: &[Source<'a>],
 ) -> Result<ElementChain<'a>, ChainError>
     requires { length rest.now < room }
-    ensures { answered chain_view result ≡ opened_chain first.now rest.now }
+    ensures { chain_answer chain_view result ≡ opened_chain first.now rest.now }
 {
     let mut chain = room.begin(first)?;
     for source in rest {
@@ -221,9 +227,9 @@ pub fn open_chain<'a>(
     rest: &[Source<'a>],
 ) -> Result<ElementChain<'a>, ChainError>
     // The answer, for every room and whatever the profiles hold.
-    ensures value { answered chain_view result ≡ opened_within room.entry first.now rest.now }
+    ensures value { chain_answer chain_view result ≡ opened_within room.entry first.now rest.now }
     // And what it says of them: which of them open and meet, and what is wrong with the next one.
-    ensures says { Says room.entry (first.now ∷ rest.now) (answered chain_view result) }
+    ensures says { Says room.entry (first.now ∷ rest.now) (chain_answer chain_view result) }
 {
     if !room.suffices(rest.len()) {
         return Err(ChainError::Room);
