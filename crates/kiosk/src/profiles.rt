@@ -98,5 +98,7 @@ pub(crate) fn opened<'f, 'a>(
         return Err(Failure::NoChain);
     };
     let slots = Vec::with_capacity(rt.alloc(), ChainRoom::slots(sources.len()))?;
-    open_chain(ChainRoom::over(slots), first, rest).map_err(|error| failure_of(profiles, files, error))
+    open_chain(ChainRoom::over(slots), first, rest).map_err(|error| failure_of(
+        profiles, files, error,
+    ))
 }
