@@ -269,7 +269,8 @@ impl<S: Stage> Converter<S> {
         Ok(self.answer_of(&output[..length], colour).unwrap())
     }
 
-    // Drops the link, if there is one. Never refused. Every run that led here goes on by this call, over whatever table.
+    // Drops the link, if there is one. Never refused. Every run that led here goes on by this call, over whatever table, and
+    // then no link is full until one is begun and filled again.
     pub fn drop_link(&mut self)
         ensures state { self.new.state ≡ Empty }
         ensures stage { self.new.stage ≡ self.old.stage }

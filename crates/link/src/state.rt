@@ -1,7 +1,6 @@
 // Where the link of a converter stands, and what each event comes to in each state.
-ghost use Rattle.std.specs.Prelude.{◌≡◌, ◌+◌, ◌-◌, ◌^◌, ◌≤◌};
-ghost use Rattle.meaning.specs.Colours.{number};
-ghost use Rattle.link.specs.States.{decided, filled, filled_state, grid_points, link_grid};
+ghost use Rattle.std.specs.Prelude.{◌≡◌};
+ghost use Rattle.link.specs.States.{decided, filled, filled_state, link_grid};
 ghost use Rattle.link.specs.declared.state.State.TheVariants.{Filling};
 
 use crate::answers::Filled;

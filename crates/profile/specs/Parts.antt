@@ -1,4 +1,4 @@
--- The element that is opened, and its tables, as parts of the profile's bytes.
+-- An opened element, and where in the file it and its tables lie.
 use Rattle.std.specs.Prelude.{◌≡◌, ℕ, ◌+◌, ◌*◌, ◌≤◌, List, length, take, drop, Some}
 use Rattle.meaning.specs.Colours.{number}
 use Rattle.meaning.specs.Lattices.{entries_of_lattice}
