@@ -4,7 +4,7 @@ use crate::profiles::{files_of, opened};
 use crate::steps::Step;
 use crate::work::Work;
 use anyhow::Context;
-use stage::{Chain, Stage};
+use stage::{Chain, Rated, Stage};
 
 // What a stage tells of itself.
 fn print_stage<S: Stage>(rt: &HostRuntime, name: &str, stage: &S) -> anyhow::Result<()> {
@@ -20,10 +20,11 @@ fn print_stage<S: Stage>(rt: &HostRuntime, name: &str, stage: &S) -> anyhow::Res
 
 // Prints the stages of a job, and what they tell together where there is more than one, and runs what it asks for.
 fn run_stages(rt: &HostRuntime, job: &Job) -> anyhow::Result<()> {
+    // Rated one by one, so that each works out its figures once: the chain's are made of these.
     let mut steps = Vec::new(rt.alloc());
     for stage in job.stages.iter() {
-        let step = Step::of(stage);
-        print_stage(rt, step.name(), &step)?;
+        let step = Rated::new(Step::of(stage));
+        print_stage(rt, step.stage().name(), &step)?;
         steps.push(step)?;
     }
     let chain = Chain::new(steps.as_slice()).context(

@@ -1,11 +1,14 @@
 // Runs the worked figures through the stages and shows them beside what is proved of their definitions.
-ghost use Rattle.std.specs.Prelude.{◌≡◌, Some, map};
+ghost use Rattle.std.specs.Prelude.{◌≡◌, None, Some, length, map};
 ghost use Rattle.std.specs.Option.{option_map};
 ghost use Rattle.std.specs.Iterator.{IsFinite};
+ghost use Rattle.meaning.specs.Links.{error_of_link};
 ghost use Rattle.meaning.specs.WorkedFigures.{figures, cube_figures, fading_figures, link_figures};
+ghost use Rattle.link.specs.Calls.{begin_refusal};
 
 use anyhow::{Context, anyhow};
-use meaning::{Channels, link_error, worked_figures};
+use link::Converter;
+use meaning::{Channels, worked_figures};
 use stage::{Curves, Joined, Lattice, Matrix, Stage, Table};
 
 // A figure that a stage gives, beside its name.
@@ -108,21 +111,45 @@ fn measured_fading_cube() -> Option<Measured<1>>
     }]))
 }
 
-// The errors of a link, with the most grid points and with the fewest, of a stage that errs by a count and a half and rises by
-// a count a count.
-fn measured_link() -> Measured<2>
-    ensures { map (λ figure. figure.measured) result.0 ≡ link_figures }
+// The error that a converter quotes for a link with so many grid points, over a stage that errs by a count and a half and rises
+// by a count a count.
+fn quoted_error<S: Stage + Drop>(stage: S, table: &[u16], grid: u32) -> Option<u32>
+    requires error { (S.Stage.meaning stage).error ≡ 98304 }
+    requires steepness { (S.Stage.meaning stage).steepness ≡ 65536 }
+    requires room { begin_refusal (S.Stage.meaning stage) grid (length table.now) ≡ None }
+    ensures { result ≡ Some (error_of_link 98304 65536 grid) }
 {
-    Measured([
+    let mut converter = Converter::new(stage);
+    converter.begin(table, grid).ok()?;
+    converter.quote().link
+}
+
+// The errors of a link, with the most grid points and with the fewest, of such a stage: three straight curves, one after the
+// other.
+#[tactic(auto, unfolding(meaning::specs::Sums::largest_below))]
+fn measured_link() -> Option<Measured<2>>
+    ensures { option_map (λ shown. map (λ figure. figure.measured) shown.0) result
+        ≡ Some link_figures }
+{
+    let straight = Curves::new(Channels::One, 2, Table(&[0u16, 65_535]))?;
+    let twice = Joined {
+        first: straight,
+        second: straight,
+    };
+    let thrice = Joined {
+        first: twice,
+        second: straight,
+    };
+    Some(Measured([
         Figure {
             name: "error of a link with 33 grid points",
-            measured: link_error(98_304, 65_536, 33),
+            measured: quoted_error(thrice, &[0; 33], 33)?,
         },
         Figure {
             name: "error of a link with 2 grid points",
-            measured: link_error(98_304, 65_536, 2),
+            measured: quoted_error(thrice, &[0; 2], 2)?,
         },
-    ])
+    ]))
 }
 
 // Prints figures beside what is proved of them, and fails where some disagree.
@@ -151,7 +178,7 @@ pub(crate) fn run(rt: &HostRuntime) -> anyhow::Result<()> {
     let Measured(fading) = measured_fading_cube().context(
         "the lattice of four channels was refused",
     )?;
-    let Measured(link) = measured_link();
+    let Measured(link) = measured_link().context("the link was refused")?;
     let proved = worked_figures();
     let curves = curves.into_iter().zip(proved.curves);
     let cube = cube.into_iter().zip(proved.cube);

@@ -1,5 +1,5 @@
-// What refusals, faults and layers print, and values that differ in one part alone.
-use link::{Filled, Quote, Refusal, State};
+// What refusals, faults, layers and pixels print, and values that differ in one part alone.
+use link::{Cmyk8, Filled, Gray8, Quote, Refusal, Rgb8, Rgb16, State};
 use profile::{ChainError, Fault, Layer, Report};
 use stage::Grid;
 use std::test::Fail;
@@ -56,6 +56,36 @@ fn each_layer_prints_its_name(rt: HostRuntime) -> Result<(), Fail> {
     for layer in LAYERS {
         assert_eq!(rt; layer.to_string(rt.alloc())?.as_str(), layer.name());
     }
+    Ok(())
+}
+
+#[test]
+fn each_pixel_is_shown_under_the_name_of_its_kind(rt: HostRuntime) -> Result<(), Fail> {
+    let gray = Gray8 { value: 7 };
+    let narrow = Rgb8 {
+        red: 1,
+        green: 2,
+        blue: 3,
+    };
+    let inks = Cmyk8 {
+        cyan: 1,
+        magenta: 2,
+        yellow: 3,
+        black: 4,
+    };
+    let wide = Rgb16 {
+        red: 1,
+        green: 2,
+        blue: 65_535,
+    };
+    assert_eq!(rt;
+        format!(in rt.alloc(); "{gray:?} {narrow:?}")?.as_str(),
+        "Gray8 { value: 7 } Rgb8 { red: 1, green: 2, blue: 3 }"
+    );
+    assert_eq!(rt;
+        format!(in rt.alloc(); "{inks:?} {wide:?}")?.as_str(),
+        "Cmyk8 { cyan: 1, magenta: 2, yellow: 3, black: 4 } Rgb16 { red: 1, green: 2, blue: 65535 }"
+    );
     Ok(())
 }
 

@@ -21,7 +21,7 @@ use Rattle.link.specs.Rows.{RowShape, shape_of, row_answer, row_bound, row_left,
 use Rattle.link.specs.Runs.{Log, Reached, EveryRunUpholds}
 use Rattle.link.specs.States.{no_use}
 use Rattle.link.proofs.LogLaws.{progress}
-use Rattle.link.proofs.RowLaws.{leaving_pixel, made_within, row_accepted}
+use Rattle.link.proofs.RowLaws.{near_deliver, row_accepted}
 use Rattle.link.proofs.RefusalLaws.{accepts, first_holds}
 use Rattle.link.proofs.RunLaws.{Stands, run_stands, run_logged}
 
@@ -44,15 +44,9 @@ module _ {P Q : Type 0} (m : Meaning) (kp : Kind P) (kq : Kind Q) (laws : Lawful
       Delivers m kp kq entering (row_pixels (link m g (baked m g)) kp kq entering) (row_bound (link m g (baked m g)) kq.error)
   baked_delivers g grid same entering =
       let l = link m g (baked m g) in
-      record {
-        as_long = length-map entering (row_pixel l kp kq);
-        within = λ place p q enters leaves k inside.
-            let c = kp.shown p in
-            let shown = lp.shows p in
-            rw (leaving_pixel (row_pixel l kp kq) entering place p q enters leaves)
-            (made_within kq lq (error_of_link m.error m.steepness g) (l.answer c) (m.exact (whole c)) (link_answers m laws g (baked m g) c shown) (laws.stays (whole c) (valid_whole c shown))
-            (links_are_close m laws g grid c shown (shows_plain same p)) k inside);
-      }
+      near_deliver m kp kq laws lp lq l.answer (error_of_link m.error m.steepness g)
+      (λ p. link_answers m laws g (baked m g) (kp.shown p) (lp.shows p))
+      (λ p. links_are_close m laws g grid (kp.shown p) (lp.shows p) (shows_plain same p)) entering
 
   -- so are those of a full link, by what a run leaves
   full_delivers : (p : Option (ℕ × ℕ)) (s : State) (t : List ℕ) → Stands m p s t → no_use s ≡ None → number m.ins ≡ number kp.channels → (entering : List P) →

@@ -11,7 +11,7 @@ use Rattle.meaning.proofs.Nearness.{over_more, over_add, near_range, valid_whole
 use Rattle.link.specs.declared.refusal.Refusal.{Refusal}
 use Rattle.link.specs.Refusals.{answered, left, Accepted}
 use Rattle.meaning.specs.Kinds.{Kind, LawfulKind}
-use Rattle.link.specs.Rows.{row_bound, row_pixel, row_pixels, Within, Delivers}
+use Rattle.link.specs.Rows.{row_bound, row_pixels, Within, Delivers}
 
 -- a bound in grains, both ways, is one on the distance
 within_both : (bound count k : ℕ) (x : Exact) → Over bound grains count 1 (num x k) x.den → Over bound grains (num x k) x.den count 1 → Within bound count x k
@@ -58,17 +58,27 @@ pub leaving_pixel : {P Q : Type 0} (f : P → Q) (entering : List P) (place : �
 leaving_pixel f entering place p q enters leaves =
     same_some (sym leaves ∙ slice_get-map f entering place ∙ ap (option_map f) enters)
 
+module _ {P Q : Type 0} (m : Meaning) (kp : Kind P) (kq : Kind Q) (laws : Lawful m) (lp : LawfulKind kp) (lq : LawfulKind kq) where
+  -- pixels made from colours within n grains of the exact values, of what pixels show, keep the bound of n and the kind's error
+  pub near_deliver : (f : List ℕ → List ℕ) (n : ℕ) → ((p : P) → Colour (f (kp.shown p))) → ((p : P) → Near n grains (whole (f (kp.shown p))) (m.exact (whole (kp.shown p)))) → (entering : List P) →
+      Delivers m kp kq entering (map (λ p. kq.made (f (kp.shown p))) entering) (min full_range (n + kq.error))
+  near_deliver f n colours near entering = record {
+    as_long = length-map entering (λ p. kq.made (f (kp.shown p)));
+    within = λ place p q enters leaves k l.
+        let c = kp.shown p in
+        rw (leaving_pixel (λ p. kq.made (f (kp.shown p))) entering place p q enters leaves)
+        (made_within kq lq n (f c) (m.exact (whole c)) (colours p) (laws.stays (whole c) (valid_whole c (lp.shows p))) (near p) k l);
+  }
+
+  -- the same of colours within n grains of the exact values whatever the colour is
+  pub made_deliver : (f : List ℕ → List ℕ) (n : ℕ) → ((c : List ℕ) → Colour c → Colour (f c)) → ((c : List ℕ) → Colour c → Near n grains (whole (f c)) (m.exact (whole c))) → (entering : List P) →
+      Delivers m kp kq entering (map (λ p. kq.made (f (kp.shown p))) entering) (min full_range (n + kq.error))
+  made_deliver f n colours near = near_deliver f n (λ p. colours (kp.shown p) (lp.shows p)) (λ p. near (kp.shown p) (lp.shows p))
+
 module _ {P Q : Type 0} (m : Meaning) (kp : Kind P) (kq : Kind Q) (laws : Lawful m) (lp : LawfulKind kp) (lq : LawfulKind kq) (entering : List P) where
   -- the pixels of a row keep its bound
   pub row_delivers : Delivers m kp kq entering (row_pixels m kp kq entering) (row_bound m kq.error)
-  row_delivers = record {
-    as_long = length-map entering (row_pixel m kp kq);
-    within = λ place p q enters leaves k l.
-        let c = kp.shown p in
-        let shown = lp.shows p in
-        rw (leaving_pixel (row_pixel m kp kq) entering place p q enters leaves)
-        (made_within kq lq m.error (m.answer c) (m.exact (whole c)) (laws.answers c shown) (laws.stays (whole c) (valid_whole c shown)) (laws.close c shown) k l);
-  }
+  row_delivers = made_deliver m kp kq laws lp lq m.answer m.error laws.answers laws.close entering
 
   -- a call that answers with the row's bound and leaves the row's pixels, unless it is refused, keeps the law
   pub row_accepted : (was now : List Q) (o : Option Refusal) (r : Result ℕ Refusal) → r ≡ answered o (row_bound m kq.error) → now ≡ left o was (row_pixels m kp kq entering) → Accepted r (Delivers m kp kq entering now)

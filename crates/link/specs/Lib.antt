@@ -1,4 +1,5 @@
 pub mod Pixels
+pub mod PixelLaws
 pub mod Refusals
 pub mod Rows
 pub mod Walks

@@ -1,13 +1,12 @@
 // Pixel kinds: how a pixel shows a colour, and how one is made from a colour.
-ghost use Rattle.std.specs.Prelude.{◌≡◌, refl};
+ghost use Rattle.std.specs.Prelude.{◌≡◌};
 ghost use Rattle.meaning.specs.Kinds.{Kind, LawfulKind};
 ghost use Rattle.link.specs.Pixels.{gray, rgb, cmyk, gray8, rgb8, cmyk8, rgb16};
-ghost use Rattle.link.specs.Pixels.{gray_samples, gray_of, rgb_samples, rgb_of, cmyk_samples, cmyk_of};
-ghost use Rattle.meaning.proofs.KindLaws.{stored_lawful};
-ghost use Rattle.meaning.specs.declared.Channels.TheVariants.{One, Three, Four};
+ghost use Rattle.link.specs.PixelLaws.{gray_lawful, rgb_lawful, cmyk_lawful};
 
 use meaning::{Channels, Faithful};
 use stage::{Colour, Sample};
+use std::fmt;
 
 // A pixel kind. Its pixels are plain values.
 pub trait Pixel: Copy {
@@ -35,13 +34,13 @@ pub trait Pixel: Copy {
 }
 
 // One channel, in samples of one width.
-#[derive(Clone, Copy, PartialEq, Eq, Debug)]
+#[derive(Clone, Copy, PartialEq, Eq)]
 pub struct Gray<S> {
     pub value: S,
 }
 
 // Three channels.
-#[derive(Clone, Copy, PartialEq, Eq, Debug)]
+#[derive(Clone, Copy, PartialEq, Eq)]
 pub struct Rgb<S> {
     pub red: S,
     pub green: S,
@@ -49,7 +48,7 @@ pub struct Rgb<S> {
 }
 
 // Four channels.
-#[derive(Clone, Copy, PartialEq, Eq, Debug)]
+#[derive(Clone, Copy, PartialEq, Eq)]
 pub struct Cmyk<S> {
     pub cyan: S,
     pub magenta: S,
@@ -66,6 +65,44 @@ pub type Cmyk8 = Cmyk<u8>;
 
 pub type Rgb16 = Rgb<u16>;
 
+// The name of a kind by the width of its samples: those of eight bits err, and those of sixteen do not.
+fn name_by_width<S: Sample>(eight: &'static str, sixteen: &'static str) -> &'static str {
+    match S::error() {
+        0 => sixteen,
+        _ => eight,
+    }
+}
+
+// A pixel is shown under the name of its kind, so that one of eight bits and one of sixteen are told apart.
+impl<S: Sample + fmt::Debug> fmt::Debug for Gray<S> {
+    fn fmt<W: fmt::Write>(&self, f: &mut fmt::Formatter<W>) -> fmt::Result {
+        f.debug_struct(name_by_width::<S>("Gray8", "Gray16"))
+            .field("value", &self.value)
+            .finish()
+    }
+}
+
+impl<S: Sample + fmt::Debug> fmt::Debug for Rgb<S> {
+    fn fmt<W: fmt::Write>(&self, f: &mut fmt::Formatter<W>) -> fmt::Result {
+        f.debug_struct(name_by_width::<S>("Rgb8", "Rgb16"))
+            .field("red", &self.red)
+            .field("green", &self.green)
+            .field("blue", &self.blue)
+            .finish()
+    }
+}
+
+impl<S: Sample + fmt::Debug> fmt::Debug for Cmyk<S> {
+    fn fmt<W: fmt::Write>(&self, f: &mut fmt::Formatter<W>) -> fmt::Result {
+        f.debug_struct(name_by_width::<S>("Cmyk8", "Cmyk16"))
+            .field("cyan", &self.cyan)
+            .field("magenta", &self.magenta)
+            .field("yellow", &self.yellow)
+            .field("black", &self.black)
+            .finish()
+    }
+}
+
 // These four names, as the crate offers them, stand for the kinds that the definitions give.
 pub fn named_kinds()
     ensures gray8 { ⟦<crate::Gray8 as Pixel>⟧.kind ≡ gray8 }
@@ -77,7 +114,7 @@ pub fn named_kinds()
 impl<S: Sample> Pixel for Gray<S> {
     ghost kind = { gray S.width };
 
-    ghost lawful = { stored_lawful One S.width gray_samples gray_of S.lawful (λ _. refl) (λ _. refl) };
+    ghost lawful = { gray_lawful S.lawful };
 
     fn channels() -> Channels {
         Channels::One
@@ -101,7 +138,7 @@ impl<S: Sample> Pixel for Gray<S> {
 impl<S: Sample> Pixel for Rgb<S> {
     ghost kind = { rgb S.width };
 
-    ghost lawful = { stored_lawful Three S.width rgb_samples rgb_of S.lawful (λ _. refl) (λ _. refl) };
+    ghost lawful = { rgb_lawful S.lawful };
 
     fn channels() -> Channels {
         Channels::Three
@@ -127,7 +164,7 @@ impl<S: Sample> Pixel for Rgb<S> {
 impl<S: Sample> Pixel for Cmyk<S> {
     ghost kind = { cmyk S.width };
 
-    ghost lawful = { stored_lawful Four S.width cmyk_samples cmyk_of S.lawful (λ _. refl) (λ _. refl) };
+    ghost lawful = { cmyk_lawful S.lawful };
 
     fn channels() -> Channels {
         Channels::Four
