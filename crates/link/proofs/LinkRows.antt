@@ -1,11 +1,9 @@
 -- A row through a full link is within its bound of the stage's own exact values, after every run that led there. Assumes nothing.
 use Rattle.std.proofs.Common.{◌≡◌, ℕ, ◌≤◌, ◌&&◌, List, [], ◌∷◌, length, nat_le, ◌==◌, Option, Some, None, Result, refl, sym, ap, subst, eqb-true}
 use Rattle.std.proofs.lemmas.Bool.{and_parts}
-use Rattle.std.proofs.lemmas.List.{length-map}
-use Rattle.meaning.specs.Colours.{number, whole}
+use Rattle.meaning.specs.Colours.{number}
 use Rattle.meaning.specs.Links.{baked, error_of_link, link, Plain}
 use Rattle.meaning.specs.Stages.{Meaning, Lawful}
-use Rattle.meaning.proofs.Nearness.{valid_whole}
 use Rattle.meaning.proofs.Baking.{link_answers}
 use Rattle.meaning.proofs.LinkLaws.{links_are_close}
 use Rattle.link.specs.declared.refusal.Refusal.{Refusal}
@@ -17,7 +15,7 @@ use Rattle.stage.specs.Lattices.{points}
 use Rattle.link.specs.Calls.{link_checks, link_numbers, table_link, link_row_refusal, link_row_answer, link_row_left}
 use Rattle.meaning.specs.Kinds.{Kind, LawfulKind}
 use Rattle.link.specs.Refusals.{answered, first_refusal, left, unless, Accepted}
-use Rattle.link.specs.Rows.{RowShape, shape_of, row_answer, row_bound, row_left, row_pixel, row_pixels, row_refusal, Delivers}
+use Rattle.link.specs.Rows.{RowShape, shape_of, row_answer, row_bound, row_left, row_pixels, row_refusal, Delivers}
 use Rattle.link.specs.Runs.{Log, Reached, EveryRunUpholds}
 use Rattle.link.specs.States.{no_use}
 use Rattle.link.proofs.LogLaws.{progress}
