@@ -103,12 +103,16 @@ impl<S: Sample + fmt::Debug> fmt::Debug for Cmyk<S> {
     }
 }
 
-// These four names, as the crate offers them, stand for the kinds that the definitions give.
+// These four names, as the crate offers them, stand for the kinds that the definitions give, and these keep the laws.
 pub fn named_kinds()
     ensures gray8 { ⟦<crate::Gray8 as Pixel>⟧.kind ≡ gray8 }
     ensures rgb8 { ⟦<crate::Rgb8 as Pixel>⟧.kind ≡ rgb8 }
     ensures cmyk8 { ⟦<crate::Cmyk8 as Pixel>⟧.kind ≡ cmyk8 }
     ensures rgb16 { ⟦<crate::Rgb16 as Pixel>⟧.kind ≡ rgb16 }
+    ensures gray8_lawful { LawfulKind gray8 }
+    ensures rgb8_lawful { LawfulKind rgb8 }
+    ensures cmyk8_lawful { LawfulKind cmyk8 }
+    ensures rgb16_lawful { LawfulKind rgb16 }
 {}
 
 impl<S: Sample> Pixel for Gray<S> {
